@@ -1,0 +1,3 @@
+// One block in a lent part: its check and its building.
+pub mod build;
+pub mod check;

@@ -1,0 +1,80 @@
+-- A block built in a lent part. Each paste makes the front longer by what it pastes; the last one, of zeros, reaches the end.
+use mathlib.Core.Path.{_≡_, refl, ap, ap₂, _∙_, sym}
+use mathlib.Core.List.{List, [], _∷_, _++_, append-assoc, append-nil}
+use Prim.Native.Nat.{ℕ, zero, suc, _+_, _-_, _≤_}
+use native.Mathlib.Omega.{arith}
+use lib.ListN.{length, getD, take, drop, replicate, length-append, length-drop, length-replicate, drop-of-length-le, replicate-append-replicate}
+use lib.Seq.{take-append-le, take-append-add, take-at, length-take-le}
+use Rattle.meaning.specs.declared.Edition.{Edition}
+use Rattle.meaning.specs.Lists.{pasted, bytes, padded}
+use Rattle.meaning.specs.Edition.{Proper}
+use Rattle.meaning.specs.Bytes.{header, blockBytes}
+use Rattle.laws.proofs.Numbers.{bytes-length}
+use Rattle.laws.proofs.Parts.{pasted-length}
+use Rattle.laws.proofs.Checks.{two-bytes}
+
+-- the front up to the end of what is pasted
+pub take-pasted-to : {A : Type 0} (a : ℕ) (new l : List A) → a ≤ length l → take (a + length new) (pasted a new l) ≡ take a l ++ new
+unfolding pasted
+take-pasted-to a new l h =
+    let s = append-assoc (take a l) new (drop (a + length new) l) in
+    let t : length (take a l) ≡ a = length-take-le a l h in
+    let u : length (take a l ++ new) ≡ a + length new = simp (length-append, t) in
+    ap (take (a + length new)) (sym s) ∙ take-at (take a l ++ new) (drop (a + length new) l) (a + length new) u
+
+-- what is pasted up to the end
+pub pasted-end : {A : Type 0} (a : ℕ) (new l : List A) → a + length new ≡ length l → pasted a new l ≡ take a l ++ new
+unfolding pasted
+pasted-end a new l h =
+    let d : drop (a + length new) l ≡ [] = drop-of-length-le l {i = a + length new} (omega arith) in
+    rw (d, append-nil)
+
+-- a list and zeros after it
+pub padded-is : (n : ℕ) (l : List ℕ) → length l ≤ n → padded n l ≡ l ++ replicate (n - length l) 0
+unfolding padded
+padded-is n l h =
+    let k : length l + (n - length l) ≡ n = omega arith in
+    let m : n - length l + length l ≡ n = omega arith in
+    let z : replicate {A = ℕ} n 0 ≡ replicate (n - length l) 0 ++ replicate (length l) 0 =
+    ap (λ (j : ℕ). replicate {A = ℕ} j 0) (sym m) ∙ sym (replicate-append-replicate (n - length l) (length l) 0) in
+    ap (λ (m : ℕ). take m (l ++ replicate n 0)) (sym k)
+    ∙ take-append-add l (replicate n 0) (n - length l)
+    ∙ ap (λ (x : List ℕ). l ++ take (n - length l) x) z
+    ∙ ap (λ (x : List ℕ). l ++ x) (take-at (replicate (n - length l) 0) (replicate (length l) 0) (n - length l) (length-replicate (n - length l) 0))
+
+pub header-length : (e : Edition) → Proper e → (height count slot version : ℕ) → length (header e height count slot version) ≡ 16
+unfolding header
+header-length e p height count slot version = simp (length-append, bytes-length) (omega (arith, p .marked))
+
+-- the header, made of an array's first four bytes and two numbers
+pub header-made : (e : Edition) → Proper e → (height count slot version : ℕ) (a b : List ℕ)
+    → a ≡ pasted 4 (bytes 4 slot) (getD (e .mark) 0 0 ∷ getD (e .mark) 1 0 ∷ height ∷ count ∷ replicate 12 0)
+    → b ≡ pasted 8 (bytes 8 version) a → b ≡ header e height count slot version
+unfolding header pasted bytes
+header-made e p height count slot version a b ea eb =
+    rw (eb, ea) (ap (λ (m : List ℕ). m ++ (height ∷ count ∷ (bytes 4 slot ++ bytes 8 version))) (two-bytes (e .mark) (p .marked)))
+
+-- the block, made of a header, a payload and zeros
+pub block-made : (e : Edition) → Proper e → (height count slot version : ℕ) (b payload h b₁ b₂ b₃ : List ℕ)
+    → length b ≡ e .size → length payload ≤ e .leaf → h ≡ header e height count slot version
+    → b₁ ≡ pasted 0 h b → b₂ ≡ pasted 16 payload b₁
+    → b₃ ≡ pasted (16 + length payload) (replicate (length b₂ - (16 + length payload)) 0) b₂
+    → b₃ ≡ blockBytes e height count slot version payload
+unfolding blockBytes
+block-made e p height count slot version b payload h b₁ b₂ b₃ len fits eh e₁ e₂ e₃ =
+    let n = length payload in
+    let hl : length h ≡ 16 = ap length eh ∙ header-length e p height count slot version in
+    let l₁ : length b₁ ≡ e .size = ap length e₁ ∙ pasted-length 0 h b (omega (arith, p .fits)) ∙ len in
+    let l₂ : length b₂ ≡ e .size = ap length e₂ ∙ pasted-length 16 payload b₁ (omega (arith, p .fits)) ∙ l₁ in
+    let t₁ : take 16 b₁ ≡ h =
+    let k : 0 + length h ≡ 16 = omega arith in
+    ap (take 16) e₁ ∙ ap (λ (j : ℕ). take j (pasted 0 h b)) (sym k) ∙ take-pasted-to 0 h b (omega arith) in
+    let t₂ : take (16 + n) b₂ ≡ h ++ payload =
+    ap (take (16 + n)) e₂ ∙ take-pasted-to 16 payload b₁ (omega (arith, p .fits)) ∙ ap (λ (x : List ℕ). x ++ payload) t₁ in
+    let r : length (replicate {A = ℕ} (length b₂ - (16 + n)) 0) ≡ length b₂ - (16 + n) = length-replicate (length b₂ - (16 + n)) 0 in
+    let w : length (h ++ payload) ≡ 16 + n = simp (length-append, hl) in
+    let v : length b₂ - (16 + n) ≡ e .size - length (h ++ payload) = omega arith in
+    e₃ ∙ pasted-end (16 + n) (replicate (length b₂ - (16 + n)) 0) b₂ (omega (arith, p .fits))
+    ∙ ap₂ _++_ t₂ (ap (λ (k : ℕ). replicate {A = ℕ} k 0) v)
+    ∙ sym (padded-is (e .size) (h ++ payload) (omega (arith, p .fits)))
+    ∙ ap (λ (x : List ℕ). padded (e .size) (x ++ payload)) eh

@@ -1,0 +1,9 @@
+-- Laws of the definitions, that the code's proofs and the promises cite.
+pub mod Numbers
+pub mod Parts
+pub mod Totals
+pub mod Heights
+pub mod Levels
+pub mod Shapes
+pub mod Checks
+pub mod Building

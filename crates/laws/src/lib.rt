@@ -1,0 +1,1 @@
+// Pure laws of the definitions, in proofs/: no code stands here.

@@ -1,0 +1,109 @@
+-- Each call's answer as the value that the code gives, and what this paper's number and values of it are.
+use mathlib.Core.Path.{_≡_}
+use mathlib.Core.List.{List, [], _∷_}
+use Prim.Native.Nat.{ℕ, _+_, _*_}
+use Rattle.meaning.specs.Lists.{part}
+use Rattle.meaning.specs.Refusals.{slotNumber}
+use Rattle.meaning.specs.Change.{Store}
+use Rattle.meaning.specs.Calls.{Outcome, refused, done, after}
+use Rattle.meaning.specs.declared.Edition.{Edition}
+use Rattle.meaning.specs.declared.Named.the-variants.{Nowhere}
+use Rattle.meaning.specs.declared.Refusal.{Refusal}
+use Rattle.meaning.specs.declared.Length.{Length}
+use Rattle.meaning.specs.declared.Length.the-variants as length
+use Rattle.meaning.specs.declared.Audit.{Audit}
+use Rattle.meaning.specs.declared.Audit.the-variants as audit
+use Rattle.meaning.specs.declared.Created.{Created}
+use Rattle.meaning.specs.declared.Created.the-variants as created
+use Rattle.meaning.specs.declared.Changed.{Changed}
+use Rattle.meaning.specs.declared.Changed.the-variants as changed
+use Rattle.meaning.specs.declared.Finished.{Finished}
+use Rattle.meaning.specs.declared.Finished.the-variants as finished
+use Rattle.meaning.specs.declared.Leaf.{Leaf}
+use Rattle.meaning.specs.declared.Leaf.the-variants as leaf
+
+unfoldable pub lengthAnswer : Outcome ℕ → Length
+lengthAnswer (refused r) = length.Refused r
+lengthAnswer (done n cs) = length.Is n
+
+unfoldable pub auditAnswer : Outcome ℕ → Audit
+auditAnswer (refused r) = audit.Refused r
+auditAnswer (done n cs) = audit.Live n
+
+unfoldable pub createAnswer : Outcome ℕ → Created
+createAnswer (refused r) = created.Refused r
+createAnswer (done s cs) = created.At s
+
+-- write, resize and delete
+unfoldable pub changeAnswer : Outcome (Unit {0}) → Changed
+changeAnswer (refused r) = changed.Refused r
+changeAnswer (done v cs) = changed.Done
+
+-- read and wipe
+unfoldable pub finishAnswer : {A : Type 0} → Outcome A → Finished
+finishAnswer (refused r) = finished.Refused r
+finishAnswer (done v cs) = finished.Done
+
+-- where a shown leaf's data bytes lie in the pool
+unfoldable pub leafAnswer : Edition → Outcome (ℕ × ℕ) → Leaf
+leafAnswer e (refused r) = leaf.Refused r
+leafAnswer e (done v cs) = leaf.At (e .size * v .0 + 16) (v .1)
+
+-- the lent output after a read: filled whole, or untouched
+unfoldable pub readOut : Outcome (List ℕ) → List ℕ → List ℕ
+readOut (refused r) out = out
+readOut (done d cs) out = d
+
+-- show's part of the pool: the leaf's data bytes as they lie there; a refusal shows an empty part
+unfoldable pub shownPart : Edition → (P : List ℕ) → Outcome (ℕ × ℕ) → List ℕ
+shownPart e P (refused r) = []
+shownPart e P (done v cs) = part (e .size * v .0 + 16) (v .1) P
+
+-- show's lent numbers: the refusal's number and named slot, 0 and no slot on success
+unfoldable pub shownNumber : Outcome (ℕ × ℕ) → ℕ
+shownNumber (refused r) = r .number
+shownNumber (done v cs) = 0
+
+unfoldable pub shownSlot : Outcome (ℕ × ℕ) → ℕ
+shownSlot (refused r) = slotNumber (r .named)
+shownSlot (done v cs) = slotNumber Nowhere
+
+-- a changing call on pool P and records R whose outcome is o answers x and leaves P′ and R′
+pub record Ends {A X : Type 0} (e : Edition) (say : Outcome A → X) (o : Outcome A) (P R : List ℕ) (x : X) (P′ R′ : List ℕ) : Type 0 where
+  pub answer : x ≡ say o
+  pub pool : P′ ≡ after e (record { pool = P; records = R }) o .pool
+  pub records : R′ ≡ after e (record { pool = P; records = R }) o .records
+
+-- a read whose outcome is o answers x and leaves out′ in the lent output
+pub record Reads (o : Outcome (List ℕ)) (x : Finished) (out out′ : List ℕ) : Type 0 where
+  pub answer : x ≡ finishAnswer o
+  pub output : out′ ≡ readOut o out
+
+-- what an answer says in this paper's terms: the values of a call that is done, or the number and the named slot of a refusal
+pub data Said : Type 0 where
+  yields : List ℕ → Said
+  refuses : Refusal → Said
+
+unfoldable pub lengthSaid : Length → Said
+lengthSaid (length.Is n) = yields (n ∷ [])
+lengthSaid (length.Refused r) = refuses r
+
+unfoldable pub auditSaid : Audit → Said
+auditSaid (audit.Live n) = yields (n ∷ [])
+auditSaid (audit.Refused r) = refuses r
+
+unfoldable pub createdSaid : Created → Said
+createdSaid (created.At s) = yields (s ∷ [])
+createdSaid (created.Refused r) = refuses r
+
+unfoldable pub changedSaid : Changed → Said
+changedSaid changed.Done = yields []
+changedSaid (changed.Refused r) = refuses r
+
+unfoldable pub finishedSaid : Finished → Said
+finishedSaid finished.Done = yields []
+finishedSaid (finished.Refused r) = refuses r
+
+unfoldable pub leafSaid : Leaf → Said
+leafSaid (leaf.At start count) = yields (start ∷ count ∷ [])
+leafSaid (leaf.Refused r) = refuses r

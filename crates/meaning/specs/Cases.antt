@@ -1,0 +1,158 @@
+-- Document 01's numbers to try that are marked P, its whole one-slot example, and an example of each refusal: one statement over one list of cases,
+-- which computes. A case is data, read by the function `right` alone.
+use mathlib.Core.Path.{_≡_, refl}
+use mathlib.Core.Bool.{Bool, true, false, not}
+use mathlib.Core.List.{List, [], _∷_, _++_, map}
+use Prim.Native.Nat.{ℕ, zero, suc, _+_, _-_, _*_, _^_}
+use lib.Dec.{eqb}
+use lib.ListN.{replicate, set}
+use Rattle.meaning.specs.Lists.{pick, both, part, pasted, joined, range, filter, all, ofLast, mapLast, only, sameList, zeros, number, bytes, padded, fours}
+use Rattle.meaning.specs.Edition.{one}
+use Rattle.meaning.specs.Bytes.{Cell, sameCell, rowBytes, header, blockBytes, encoded, block, heightOf, countOf, ownSlot, versionOf, dataOf, childrenOf, recordWith, recordOf, recordAt, stateOf, recordedOf, state, recorded, soundRecord, lastVersion, usableSlot}
+use Rattle.meaning.specs.Tree.{slotOf, atSlot, content, leaves, cells, rootOf, contentOf, leavesOf, cellsOf, slotsOf, lengthOf, held}
+use Rattle.meaning.specs.Shape.{up, leavesFor, totalWithin, total, least, most}
+use Rattle.meaning.specs.Refusals.{refusalOf, at, nowhere, must, first, slotNumber}
+use Rattle.meaning.specs.Walk.{flaw, used, formed, blockCheck, isRoot, linkCheck, andThen, passing, isEmpty, oneVisit, row, visit, fromRoot, blobCheck, roots, closingCheck, closing, poolCheck}
+use Rattle.meaning.specs.Change.{Store, put, puts, changedBy, freed, renewed, changed, changes}
+use Rattle.meaning.specs.Resize.{lowest, chain, onLast, roomy, hang, raised, addLeaf, addLeaves, lastLeaf, share, shares, lastBytes, longer, keepRow, keep, lower, shorter, resized, along, refill, refilled}
+use Rattle.meaning.specs.Calls.{refuseIf, afterCheck, slotsIn, sized, refuseBadRecord, opened, withBlob, usable, live, rooted, reading, changing, refuseWorn, refusePast, refuseFull, become, lengthOn, lengthIn, readOn, readIn, auditOn, auditIn, createOn, createIn, newBlocks, resizeOn, resizeIn, writeOn, writeIn, lengthCall, readCall, auditCall, createCall, writeCall, resizeCall, after, freeRecords, wiped, afterWipe}
+use Rattle.meaning.specs.Answers.{Said, yields, refuses}
+use Rattle.meaning.specs.Run.{Call, create, audit, write, resize, length, read, saidBy, says, perform}
+use Rattle.meaning.specs.declared.Named.{Named}
+use Rattle.meaning.specs.declared.Named.the-variants.{Nowhere, Slot}
+
+-- what is stated of a store
+pub data Fact : Type 0 where
+  -- slot s has this state and version in its record, and its block holds this cell at this version
+  leaf : (s state version : ℕ) → List ℕ → Fact
+  inner : (s state version height : ℕ) → List ℕ → Fact
+  -- slot s is free at this version, its block all zeros
+  free : (s version : ℕ) → Fact
+  -- the whole pool and all records, byte by byte
+  whole : (pool records : List ℕ) → Fact
+
+-- a call, what it answers, and what holds after it
+pub record Step : Type 0 where
+  pub call : Call
+  pub answer : List ℕ
+  pub facts : List Fact
+
+pub data Case : Type 0 where
+  -- a blob of this length has so many blocks
+  blocks : (len n : ℕ) → Case
+  -- in a wiped pool of N slots, these calls
+  script : (N : ℕ) → List Step → Case
+  -- on this store, a call and the refusal that it gives
+  refusal : Store → Call → ℕ → Named → Case
+
+unfoldable pub holds : Store → (s state version : ℕ) → Cell → Bool
+holds S s st version c =
+    both (sameList (recordAt (S .records) s) (recordOf st version))
+    (sameList (block one (S .pool) s) (encoded one c s version))
+
+unfoldable pub true-of : Store → Fact → Bool
+true-of S (leaf s st version row) = holds S s st version (record { height = 0; row = row })
+true-of S (inner s st version height row) = holds S s st version (record { height = height; row = row })
+true-of S (free s version) =
+    both (sameList (recordAt (S .records) s) (recordOf 0 version)) (zeros (block one (S .pool) s))
+true-of S (whole pool records) = both (sameList (S .pool) pool) (sameList (S .records) records)
+
+unfoldable pub sameSaid : Said → Said → Bool
+sameSaid (yields vs) (yields ws) = sameList vs ws
+sameSaid (yields vs) (refuses r) = false
+sameSaid (refuses r) (yields ws) = false
+sameSaid (refuses r) (refuses q) =
+    both (eqb (r .number) (q .number)) (eqb (slotNumber (r .named)) (slotNumber (q .named)))
+
+-- one call after the other, each with its answer and facts
+unfoldable pub played : Store → List Step → Bool
+played S [] = true
+played S (x ∷ xs) =
+    let S′ = perform one S (x .call) in
+    both (sameSaid (says one S (x .call)) (yields (x .answer))) (both (all (true-of S′) (x .facts)) (played S′ xs))
+
+unfoldable pub right : Case → Bool
+right (blocks len n) = eqb (total (one .fan) (leavesFor (one .leaf) len)) n
+right (script N steps) = played (wiped one N) steps
+right (refusal S call n s) = sameSaid (says one S call) (refuses (refusalOf n s))
+
+-- the rows marked P, and the blob created in a wiped one-slot pool
+unfoldable pub cases : List Case
+cases =
+    blocks 0 1 ∷ blocks 48 1 ∷ blocks 49 3
+    ∷ blocks 576 13 ∷ blocks 577 16
+    ∷ blocks 6912 157 ∷ blocks 6913 161
+    ∷ blocks 44976 1024 ∷ blocks 44977 1025
+    ∷ script 4
+    (record { call = create; answer = 0 ∷ []; facts = leaf 0 2 1 [] ∷ free 1 0 ∷ free 2 0 ∷ free 3 0 ∷ [] }
+    ∷ record {
+      call = resize 0 49;
+      answer = [];
+      facts = inner 0 2 2 1 (1 ∷ 2 ∷ []) ∷ leaf 1 1 1 (replicate 48 0) ∷ leaf 2 1 1 (0 ∷ []) ∷ free 3 0 ∷ [];
+    }
+    ∷ record {
+      call = resize 0 48;
+      answer = [];
+      facts = leaf 0 2 3 (replicate 48 0) ∷ free 1 1 ∷ free 2 1 ∷ free 3 0 ∷ [];
+    }
+    ∷ record {
+      call = create;
+      answer = 1 ∷ [];
+      facts = leaf 0 2 3 (replicate 48 0) ∷ leaf 1 2 2 [] ∷ free 2 1 ∷ free 3 0 ∷ [];
+    }
+    ∷ [])
+    ∷ script 1
+    (record {
+      call = create;
+      answer = 0 ∷ [];
+      facts = whole
+          (0x4c ∷ 0x31 ∷ 0 ∷ 0 ∷ 0 ∷ 0 ∷ 0 ∷ 0 ∷ 1 ∷ 0 ∷ 0 ∷ 0 ∷ 0 ∷ 0 ∷ 0 ∷ 0 ∷ replicate 48 0)
+          (0x52 ∷ 0x31 ∷ 2 ∷ 0 ∷ 1 ∷ 0 ∷ 0 ∷ 0 ∷ 0 ∷ 0 ∷ 0 ∷ 0 ∷ []) ∷ [];
+    }
+    ∷ [])
+    ∷ []
+
+-- an empty leaf of slot 0 at this version
+unfoldable pub empty : (version : ℕ) → List ℕ
+empty version = encoded one (record { height = 0; row = [] }) 0 version
+
+-- two slots, the blob of an empty leaf in the first
+unfoldable pub two : (b line b′ line′ : List ℕ) → Store
+two b line b′ line′ = record { pool = b ++ b′; records = line ++ line′ }
+
+-- such a block and such a record beside a free slot
+unfoldable pub beside : (b line : List ℕ) → Store
+beside b line = two b line (replicate 64 0) (recordOf 0 0)
+
+-- An example of each refusal, 1 to 12. A call gives the first refusal of its order that holds, so each store passes every earlier check.
+unfoldable pub refusals : List Case
+refusals =
+    -- two slots, one record
+    refusal (two (empty 1) (recordOf 2 1) (replicate 64 0) []) audit 1 Nowhere
+    -- a live record of version 0
+    ∷ refusal (beside (empty 0) (recordOf 2 0)) audit 2 (Slot 0)
+    -- slot 1 is free
+    ∷ refusal (beside (empty 1) (recordOf 2 1)) (length 1) 3 Nowhere
+    -- another mark
+    ∷ refusal (beside (set (empty 1) 0 0x4d) (recordOf 2 1)) (length 0) 4 (Slot 0)
+    -- a block of slot 1
+    ∷ refusal (beside (set (empty 1) 4 1) (recordOf 2 1)) (length 0) 5 (Slot 0)
+    -- an older copy
+    ∷ refusal (beside (empty 1) (recordOf 2 2)) (length 0) 6 (Slot 0)
+    -- a newer one
+    ∷ refusal (beside (empty 2) (recordOf 2 1)) (length 0) 7 (Slot 0)
+    -- a stale byte after the count
+    ∷ refusal (beside (set (empty 1) 16 7) (recordOf 2 1)) (length 0) 8 (Slot 0)
+    -- an old block in a free slot
+    ∷ refusal (two (empty 1) (recordOf 2 1) (empty 1) (recordOf 0 1)) audit 9 (Slot 1)
+    -- a byte past the end of an empty blob
+    ∷ refusal (beside (empty 1) (recordOf 2 1)) (read 0 0 1) 10 Nowhere
+    -- two new blocks, one free slot
+    ∷ refusal (beside (empty 1) (recordOf 2 1)) (resize 0 49) 11 Nowhere
+    -- a worn blob, even where nothing would be written
+    ∷ refusal (beside (empty (2 ^ 64 - 1)) (recordOf 2 (2 ^ 64 - 1))) (write 0 0 []) 12 Nowhere
+    ∷ []
+
+pub cases-hold : all right (cases ++ refusals) ≡ true
+unfolding cases refusals right played sameSaid true-of holds empty two beside one pick both part pasted joined range filter all ofLast mapLast only sameList zeros number bytes padded fours sameCell rowBytes header blockBytes encoded block heightOf countOf ownSlot versionOf dataOf childrenOf recordWith recordOf recordAt stateOf recordedOf state recorded soundRecord lastVersion usableSlot slotOf atSlot content leaves cells rootOf contentOf leavesOf cellsOf slotsOf lengthOf held up leavesFor totalWithin total least most refusalOf at nowhere must first flaw used formed blockCheck isRoot linkCheck andThen passing isEmpty oneVisit row visit fromRoot roots closingCheck closing poolCheck put puts changedBy freed renewed changed changes lowest chain onLast roomy hang raised addLeaf addLeaves lastLeaf share shares lastBytes longer keepRow keep lower shorter resized refuseIf afterCheck slotsIn sized refuseBadRecord opened withBlob usable rooted changing refuseWorn refuseFull become createOn createIn newBlocks resizeOn resizeIn createCall resizeCall after freeRecords wiped saidBy says perform reading blobCheck lengthOn lengthIn refusePast readOn readIn live auditOn auditIn writeOn writeIn lengthCall readCall auditCall writeCall along refill refilled slotNumber
+cases-hold = refl

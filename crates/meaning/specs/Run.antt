@@ -1,0 +1,86 @@
+-- Runs of calls after one wipe: their moments, and the book of their history.
+use mathlib.Core.List.{List, [], _∷_, _++_}
+use mathlib.Core.Bool.{Bool, not}
+use Prim.Native.Nat.{ℕ, zero, suc, _+_}
+use lib.Dec.{eqb}
+use lib.ListN.{getD}
+use Rattle.meaning.specs.Lists.{filter}
+use Rattle.meaning.specs.Shape.{leavesFor, total}
+use Rattle.meaning.specs.Change.{Store}
+use Rattle.meaning.specs.Calls.{Outcome, refused, done, after, afterWipe, lengthCall, readCall, showCall, auditCall, createCall, writeCall, resizeCall, deleteCall}
+use Rattle.meaning.specs.Answers.{Said, yields, refuses, shownPart}
+use Rattle.meaning.specs.declared.Edition.{Edition}
+
+-- the calls but wipe, with any arguments
+pub data Call : Type 0 where
+  create audit : Call
+  write : (r offset : ℕ) → List ℕ → Call
+  resize : (r len : ℕ) → Call
+  delete length : (r : ℕ) → Call
+  read : (r offset size : ℕ) → Call
+  showLeaf : (r k : ℕ) → Call
+
+-- what an outcome says, given its values
+unfoldable pub saidBy : {A : Type 0} → (A → List ℕ) → Outcome A → Said
+saidBy values (refused r) = refuses r
+saidBy values (done a cs) = yields (values a)
+
+-- each call's answer: a slot, a length, a count, the bytes read; of a leaf its slot, its count and the bytes shown
+unfoldable pub says : Edition → Store → Call → Said
+says e S create = saidBy (λ s. s ∷ []) (createCall e (S .pool) (S .records))
+says e S audit = saidBy (λ n. n ∷ []) (auditCall e (S .pool) (S .records))
+says e S (write r offset d) = saidBy (λ v. []) (writeCall e (S .pool) (S .records) r offset d)
+says e S (resize r len) = saidBy (λ v. []) (resizeCall e (S .pool) (S .records) r len)
+says e S (delete r) = saidBy (λ v. []) (deleteCall e (S .pool) (S .records) r)
+says e S (length r) = saidBy (λ n. n ∷ []) (lengthCall e (S .pool) (S .records) r)
+says e S (read r offset size) = saidBy (λ d. d) (readCall e (S .pool) (S .records) r offset size)
+says e S (showLeaf r k) =
+    saidBy (λ v. v .0 ∷ v .1 ∷ shownPart e (S .pool) (done v [])) (showCall e (S .pool) (S .records) r k)
+
+-- the store after a call
+unfoldable pub perform : Edition → Store → Call → Store
+perform e S create = after e S (createCall e (S .pool) (S .records))
+perform e S audit = after e S (auditCall e (S .pool) (S .records))
+perform e S (write r offset d) = after e S (writeCall e (S .pool) (S .records) r offset d)
+perform e S (resize r len) = after e S (resizeCall e (S .pool) (S .records) r len)
+perform e S (delete r) = after e S (deleteCall e (S .pool) (S .records) r)
+perform e S (length r) = after e S (lengthCall e (S .pool) (S .records) r)
+perform e S (read r offset size) = after e S (readCall e (S .pool) (S .records) r offset size)
+perform e S (showLeaf r k) = after e S (showCall e (S .pool) (S .records) r k)
+
+-- the moments of a run: the store at its start, and after each call
+unfoldable pub moments : Edition → Store → List Call → List Store
+moments e S [] = S ∷ []
+moments e S (c ∷ cs) = S ∷ moments e (perform e S c) cs
+
+-- a run starts with a wipe of a store of good lengths
+unfoldable pub run : Edition → Store → List Call → List Store
+run e S calls = moments e (afterWipe e S) calls
+
+-- The book of a history: each blob alive, as its root and the length last given to it by a call that was not refused.
+-- A new blob has length 0; a later entry of a root stands for an earlier one.
+unfoldable pub without : ℕ → List (ℕ × ℕ) → List (ℕ × ℕ)
+without r book = filter (λ b. not (eqb (b .0) r)) book
+
+unfoldable pub noted : Call → Said → List (ℕ × ℕ) → List (ℕ × ℕ)
+noted c (refuses r) book = book
+noted create (yields vs) book = (getD vs 0 0, 0) ∷ book
+noted (resize r len) (yields vs) book = (r, len) ∷ without r book
+noted (delete r) (yields vs) book = without r book
+noted audit (yields vs) book = book
+noted (write r offset d) (yields vs) book = book
+noted (length r) (yields vs) book = book
+noted (read r offset size) (yields vs) book = book
+noted (showLeaf r k) (yields vs) book = book
+
+unfoldable pub bookFrom : Edition → Store → List (ℕ × ℕ) → List Call → List (ℕ × ℕ)
+bookFrom e S book [] = book
+bookFrom e S book (c ∷ cs) = bookFrom e (perform e S c) (noted c (says e S c) book) cs
+
+unfoldable pub bookOf : Edition → Store → List Call → List (ℕ × ℕ)
+bookOf e S calls = bookFrom e (afterWipe e S) [] calls
+
+-- the sum, over the blobs of a book, of the block total for each length
+unfoldable pub blocksOf : Edition → List (ℕ × ℕ) → ℕ
+blocksOf e [] = 0
+blocksOf e (b ∷ bs) = total (e .fan) (leavesFor (e .leaf) (b .1)) + blocksOf e bs
