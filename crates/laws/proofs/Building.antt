@@ -3,15 +3,15 @@ use mathlib.Core.Path.{_≡_, refl, ap, ap₂, _∙_, sym}
 use mathlib.Core.List.{List, [], _∷_, _++_, append-assoc, append-nil}
 use Prim.Native.Nat.{ℕ, zero, suc, _+_, _-_, _≤_}
 use native.Mathlib.Omega.{arith}
-use lib.ListN.{length, getD, take, drop, replicate, length-append, length-drop, length-replicate, drop-of-length-le, replicate-append-replicate}
-use lib.Seq.{take-append-le, take-append-add, take-at, length-take-le}
+use lib.ListN.{length, getD, take, drop, replicate, length-append, length-replicate, drop-of-length-le}
+use lib.Seq.{take-at, length-take-le}
 use Rattle.meaning.specs.declared.Edition.{Edition}
 use Rattle.meaning.specs.Lists.{pasted, bytes, padded}
 use Rattle.meaning.specs.Edition.{Proper}
 use Rattle.meaning.specs.Bytes.{header, blockBytes}
-use Rattle.laws.proofs.Numbers.{bytes-length}
 use Rattle.laws.proofs.Parts.{pasted-length}
 use Rattle.laws.proofs.Checks.{two-bytes}
+use Rattle.laws.proofs.Codec.{header-length, padded-fits}
 
 -- the front up to the end of what is pasted
 pub take-pasted-to : {A : Type 0} (a : ℕ) (new l : List A) → a ≤ length l → take (a + length new) (pasted a new l) ≡ take a l ++ new
@@ -28,23 +28,6 @@ unfolding pasted
 pasted-end a new l h =
     let d : drop (a + length new) l ≡ [] = drop-of-length-le l {i = a + length new} (omega arith) in
     rw (d, append-nil)
-
--- a list and zeros after it
-pub padded-is : (n : ℕ) (l : List ℕ) → length l ≤ n → padded n l ≡ l ++ replicate (n - length l) 0
-unfolding padded
-padded-is n l h =
-    let k : length l + (n - length l) ≡ n = omega arith in
-    let m : n - length l + length l ≡ n = omega arith in
-    let z : replicate {A = ℕ} n 0 ≡ replicate (n - length l) 0 ++ replicate (length l) 0 =
-    ap (λ (j : ℕ). replicate {A = ℕ} j 0) (sym m) ∙ sym (replicate-append-replicate (n - length l) (length l) 0) in
-    ap (λ (m : ℕ). take m (l ++ replicate n 0)) (sym k)
-    ∙ take-append-add l (replicate n 0) (n - length l)
-    ∙ ap (λ (x : List ℕ). l ++ take (n - length l) x) z
-    ∙ ap (λ (x : List ℕ). l ++ x) (take-at (replicate (n - length l) 0) (replicate (length l) 0) (n - length l) (length-replicate (n - length l) 0))
-
-pub header-length : (e : Edition) → Proper e → (height count slot version : ℕ) → length (header e height count slot version) ≡ 16
-unfolding header
-header-length e p height count slot version = simp (length-append, bytes-length) (omega (arith, p .marked))
 
 -- the header, made of an array's first four bytes and two numbers
 pub header-made : (e : Edition) → Proper e → (height count slot version : ℕ) (a b : List ℕ)
@@ -63,7 +46,7 @@ pub block-made : (e : Edition) → Proper e → (height count slot version : ℕ
 unfolding blockBytes
 block-made e p height count slot version b payload h b₁ b₂ b₃ len fits eh e₁ e₂ e₃ =
     let n = length payload in
-    let hl : length h ≡ 16 = ap length eh ∙ header-length e p height count slot version in
+    let hl : length h ≡ 16 = ap length eh ∙ header-length e (p .marked) height count slot version in
     let l₁ : length b₁ ≡ e .size = ap length e₁ ∙ pasted-length 0 h b (omega (arith, p .fits)) ∙ len in
     let l₂ : length b₂ ≡ e .size = ap length e₂ ∙ pasted-length 16 payload b₁ (omega (arith, p .fits)) ∙ l₁ in
     let t₁ : take 16 b₁ ≡ h =
@@ -76,5 +59,5 @@ block-made e p height count slot version b payload h b₁ b₂ b₃ len fits eh 
     let v : length b₂ - (16 + n) ≡ e .size - length (h ++ payload) = omega arith in
     e₃ ∙ pasted-end (16 + n) (replicate (length b₂ - (16 + n)) 0) b₂ (omega (arith, p .fits))
     ∙ ap₂ _++_ t₂ (ap (λ (k : ℕ). replicate {A = ℕ} k 0) v)
-    ∙ sym (padded-is (e .size) (h ++ payload) (omega (arith, p .fits)))
+    ∙ sym (padded-fits (e .size) (h ++ payload) (omega (arith, p .fits)))
     ∙ ap (λ (x : List ℕ). padded (e .size) (x ++ payload)) eh

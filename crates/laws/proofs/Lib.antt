@@ -6,4 +6,8 @@ pub mod Heights
 pub mod Levels
 pub mod Shapes
 pub mod Checks
+pub mod Inversions
+pub mod Codec
 pub mod Building
+pub mod Roots
+pub mod OneToOne
