@@ -46,7 +46,7 @@ pub block-made : (e : Edition) → Proper e → (height count slot version : ℕ
 unfolding blockBytes
 block-made e p height count slot version b payload h b₁ b₂ b₃ len fits eh e₁ e₂ e₃ =
     let n = length payload in
-    let hl : length h ≡ 16 = ap length eh ∙ header-length e (p .marked) height count slot version in
+    let hl : length h ≡ 16 = ap length eh ∙ header-length e height count slot version (p .marked) in
     let l₁ : length b₁ ≡ e .size = ap length e₁ ∙ pasted-length 0 h b (omega (arith, p .fits)) ∙ len in
     let l₂ : length b₂ ≡ e .size = ap length e₂ ∙ pasted-length 16 payload b₁ (omega (arith, p .fits)) ∙ l₁ in
     let t₁ : take 16 b₁ ≡ h =
