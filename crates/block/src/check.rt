@@ -1,7 +1,6 @@
 // The check of one block. It takes the block as a lent part, wherever that lies.
 use meaning::Checked;
 use meaning::Edition;
-use meaning::Named;
 ghost use mathlib.Core.Path.{_≡_};
 ghost use Prim.Native.Nat.{_+_, _*_, _≤_};
 ghost use lib.ListN.{length};
@@ -128,10 +127,10 @@ pub fn check_block(
 {
     let n = flaw_of(e, version, slot, b);
     if n != 0 {
-        return Checked::Faulty(meaning::refuse(n, Named::Slot(slot as u64)));
+        return Checked::Faulty(meaning::refuse_at(n, slot));
     }
     if formed_of(e, h, root, edge, b) {
         return Checked::Passed;
     }
-    Checked::Faulty(meaning::refuse(8, Named::Slot(slot as u64)))
+    Checked::Faulty(meaning::refuse_at(8, slot))
 }

@@ -8,7 +8,6 @@ use borrow.Author.Tests.{eq-eqb, ne-eqb, le-leb, lt-leb, lt-ltb, le-ltb, not-tru
 use lib.Dec.{eqb, leb, ltb}
 use lib.ListN.{length, getD, take, drop}
 use Rattle.meaning.specs.declared.Edition.{Edition}
-use Rattle.meaning.specs.declared.Named.the-variants.{Slot}
 use Rattle.meaning.specs.declared.Refusal.{Refusal}
 use Rattle.meaning.specs.declared.Checked.{Checked}
 use Rattle.meaning.specs.declared.Checked.the-variants.{Passed, Faulty}
@@ -16,7 +15,7 @@ use Rattle.meaning.specs.Lists.{pick, both, part, number, sameList, zeros}
 use Rattle.meaning.specs.Edition.{Proper}
 use Rattle.meaning.specs.Bytes.{heightOf, countOf, ownSlot, versionOf, stateOf, recordedOf, soundRecord}
 use Rattle.meaning.specs.Shape.{least, most}
-use Rattle.meaning.specs.Refusals.{refusalOf, at, must}
+use Rattle.meaning.specs.Refusals.{at, must}
 use Rattle.laws.proofs.Numbers.{part-front}
 use Rattle.meaning.specs.Walk.{flaw, used, formed, blockCheck}
 
@@ -150,8 +149,8 @@ module _ (e : Edition) (b : List ℕ) (h : ℕ) (root edge : Bool) (f : ℕ) (ef
 
 -- checks 2 and 3
 module _ (e : Edition) (h : ℕ) (root edge : Bool) (v s : ℕ) (b : List ℕ) (n : ℕ) (en : n ≡ flaw e v s b) where
-  pub check-flaw : (n ≡ 0 → ⊥) → (r : Refusal) → r ≡ refusalOf n (Slot s) → Faulty r ≡ blockCheck e h root edge v s b
-  unfolding blockCheck must at
+  pub check-flaw : (n ≡ 0 → ⊥) → (r : Refusal) → r ≡ at n s → Faulty r ≡ blockCheck e h root edge v s b
+  unfolding blockCheck must
   check-flaw z r er = simp (← en, ne-eqb n 0 z, er)
 
   module _ (z : n ≡ 0) (f : Bool) (ef : f ≡ formed e h root edge b) where
@@ -159,8 +158,8 @@ module _ (e : Edition) (h : ℕ) (root edge : Bool) (v s : ℕ) (b : List ℕ) (
     unfolding blockCheck must
     check-passed t = simp (← en, eq-eqb n 0 z, ← ef, t)
 
-    pub check-shape : f ≡ false → (r : Refusal) → r ≡ refusalOf 8 (Slot s) → Faulty r ≡ blockCheck e h root edge v s b
-    unfolding blockCheck must at
+    pub check-shape : f ≡ false → (r : Refusal) → r ≡ at 8 s → Faulty r ≡ blockCheck e h root edge v s b
+    unfolding blockCheck must
     check-shape t r er = simp (← en, eq-eqb n 0 z, ← ef, t, er)
 
 -- the check of one record, as far as the code has come: m says whether the mark is right, st is the state

@@ -12,13 +12,15 @@ use lib.ListN.{length, getD, take, drop, replicate, set}
 use Rattle.meaning.specs.declared.Edition.{Edition}
 use Rattle.meaning.specs.declared.Named.the-variants.{Slot}
 use Rattle.meaning.specs.declared.Refusal.{Refusal}
+use Rattle.meaning.specs.declared.Role.{Role}
+use Rattle.meaning.specs.declared.Role.the-variants.{Child}
 use Rattle.meaning.specs.declared.Checked.{Checked}
 use Rattle.meaning.specs.declared.Checked.the-variants.{Passed, Faulty}
 use Rattle.meaning.specs.Lists.{pick, both, all, zeros, sameList}
 use Rattle.meaning.specs.Bytes.{block, heightOf, countOf, ownSlot, versionOf, stateOf, recordedOf, state, recorded, soundRecord}
 use Rattle.meaning.specs.Shape.{least, most}
 use Rattle.meaning.specs.Refusals.{refusalOf, at, must, first}
-use Rattle.meaning.specs.Walk.{flaw, used, formed, blockCheck, Role, child, isRoot, linkCheck, Found, fault, fine, andThen, passing, oneVisit}
+use Rattle.meaning.specs.Walk.{flaw, used, formed, blockCheck, isRoot, linkCheck, Found, fault, fine, andThen, passing, oneVisit}
 
 -- from a test that is both true and false, anything
 pub never {ℓ} : {A : Type ℓ} → true ≡ false → A
@@ -253,7 +255,7 @@ pub record Linked (N : ℕ) (R seen : List ℕ) (s : ℕ) : Type 0 where
 -- check 1, of a child slot
 module _ (N : ℕ) (R seen : List ℕ) (p s : ℕ) where
   -- a slot that passes is linked
-  pub passed-linked : linkCheck N R seen (child p) s ≡ Passed → Linked N R seen s
+  pub passed-linked : linkCheck N R seen (Child p) s ≡ Passed → Linked N R seen s
   unfolding linkCheck
   passed-linked c =
       let t = must-passed (both (ltb s N) (both (not (eqb (state R s) 2)) (eqb (getD seen s 0) 0))) (at 8 p) _ c in
@@ -263,14 +265,14 @@ module _ (N : ℕ) (R seen : List ℕ) (p s : ℕ) where
       record { within = ltb-true s N (x .0); part = eqb-true (state R s) 1 (u .0); unseen = eqb-true (getD seen s 0) 0 (y .1) }
 
   -- a linked slot passes
-  pub linked-passed : Linked N R seen s → linkCheck N R seen (child p) s ≡ Passed
+  pub linked-passed : Linked N R seen s → linkCheck N R seen (Child p) s ≡ Passed
   unfolding linkCheck both must
   linked-passed l =
       let n : eqb (state R s) 2 ≡ false = ne-eqb (state R s) 2 (omega arith) in
       simp (lt-ltb s N (l .within), eq-eqb (getD seen s 0) 0 (l .unseen), n, eq-eqb (state R s) 1 (l .part))
 
   -- a fault is 8, naming the parent, or 9, naming the child
-  pub link-fault : (r : Refusal) → linkCheck N R seen (child p) s ≡ Faulty r → (r ≡ at 8 p) ⊎ (r ≡ at 9 s)
+  pub link-fault : (r : Refusal) → linkCheck N R seen (Child p) s ≡ Faulty r → (r ≡ at 8 p) ⊎ (r ≡ at 9 s)
   unfolding linkCheck
   link-fault r c =
       must-faulty Either (both (ltb s N) (both (not (eqb (state R s) 2)) (eqb (getD seen s 0) 0))) (at 8 p) _ r c

@@ -11,3 +11,6 @@ pub mod Codec
 pub mod Building
 pub mod Roots
 pub mod OneToOne
+pub mod Walked
+pub mod Marks
+pub mod Positions

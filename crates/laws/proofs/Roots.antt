@@ -14,7 +14,9 @@ use Rattle.meaning.specs.declared.Edition.{Edition}
 use Rattle.meaning.specs.Lists.{pick, range, filter}
 use Rattle.meaning.specs.Bytes.{block, heightOf, dataOf, childrenOf, state}
 use Rattle.meaning.specs.Tree.{Tree, Blob, slotOf, rootOf}
-use Rattle.meaning.specs.Walk.{Role, root, Found, fine, oneVisit, row, visit, fromRoot, roots, closing, poolCheck}
+use Rattle.meaning.specs.declared.Role.{Role}
+use Rattle.meaning.specs.declared.Role.the-variants.{Root}
+use Rattle.meaning.specs.Walk.{Found, fine, oneVisit, row, visit, fromRoot, roots, closing, poolCheck}
 use Rattle.meaning.specs.Calls.{Outcome, withBlob}
 use Rattle.laws.proofs.Inversions.{by-test, andThen-fine, andThen-turned, andThen-joined, passing-fine, fine-same}
 
@@ -52,8 +54,8 @@ module _ (e : Edition) (N : ℕ) (P R : List ℕ) where
   unfolding fromRoot rootOf
   walk-root seen r w =
       let h : ℕ = min (heightOf (block e P r)) (e .top) in
-      let t = andThen-turned (visit e N P R h root true seen r) (λ t. record { height = h; tree = t }) w in
-      ap rootOf (sym (t .2)) ∙ visit-slot h root true seen r (t .1)
+      let t = andThen-turned (visit e N P R h Root true seen r) (λ t. record { height = h; tree = t }) w in
+      ap rootOf (sym (t .2)) ∙ visit-slot h Root true seen r (t .1)
 
   -- where the first slot's record is a root's: the walk from it, then those from the other slots
   pub roots-root : (s : ℕ) (slots seen : List ℕ) {bs : List Blob} {seen′ : List ℕ} → eqb (state R s) 2 ≡ true

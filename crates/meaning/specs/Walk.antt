@@ -11,6 +11,8 @@ use Rattle.meaning.specs.Shape.{least, most}
 use Rattle.meaning.specs.Refusals.{at, must, first}
 use Rattle.meaning.specs.declared.Edition.{Edition}
 use Rattle.meaning.specs.declared.Refusal.{Refusal}
+use Rattle.meaning.specs.declared.Role.{Role}
+use Rattle.meaning.specs.declared.Role.the-variants.{Root, Child}
 use Rattle.meaning.specs.declared.Checked.{Checked}
 use Rattle.meaning.specs.declared.Checked.the-variants.{Passed, Faulty}
 
@@ -42,18 +44,14 @@ blockCheck e h root edge version s b =
     must (eqb n 0) (at n s) (must (formed e h root edge b) (at 8 s) Passed)
 
 -- a block is visited as a root, or as a child of its parent
-pub data Role : Type 0 where
-  root : Role
-  child : (parent : ℕ) → Role
-
 unfoldable pub isRoot : Role → Bool
-isRoot root = true
-isRoot (child p) = false
+isRoot Root = true
+isRoot (Child p) = false
 
 -- check 1, for a child slot; flags say which slots are already visited
 unfoldable pub linkCheck : (N : ℕ) → (R seen : List ℕ) → Role → ℕ → Checked
-linkCheck N R seen root s = Passed
-linkCheck N R seen (child p) s =
+linkCheck N R seen Root s = Passed
+linkCheck N R seen (Child p) s =
     must (both (ltb s N) (both (not (eqb (state R s) 2)) (eqb (getD seen s 0) 0))) (at 8 p)
     (must (eqb (state R s) 1) (at 9 s) Passed)
 
@@ -86,7 +84,7 @@ module _ (e : Edition) (N : ℕ) (P R : List ℕ) where
   unfoldable pub row : {A : Type 0} → (Role → Bool → List ℕ → ℕ → Found A) → (parent : ℕ) → (edge : Bool) → List ℕ → List ℕ → Found (List A)
   row visit p edge [] seen = fine [] seen
   row visit p edge (c ∷ cs) seen =
-      andThen (visit (child p) (both edge (isEmpty cs)) seen c)
+      andThen (visit (Child p) (both edge (isEmpty cs)) seen c)
       (λ t seen′. andThen (row visit p edge cs seen′) (λ ts seen″. fine (t ∷ ts) seen″))
 
   -- to visit a block is to visit its row
@@ -101,7 +99,7 @@ module _ (e : Edition) (N : ℕ) (P R : List ℕ) where
   unfoldable pub fromRoot : List ℕ → ℕ → Found Blob
   fromRoot seen r =
       let h = min (heightOf (block e P r)) (e .top) in
-      andThen (visit h root true seen r) (λ t seen′. fine (record { height = h; tree = t }) seen′)
+      andThen (visit h Root true seen r) (λ t seen′. fine (record { height = h; tree = t }) seen′)
 
   -- the blob check is the walk from one root
   unfoldable pub blobCheck : ℕ → Found Blob

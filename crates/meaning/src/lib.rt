@@ -1,7 +1,7 @@
 // The types that document 01's definitions and the code share: an edition, a refusal, the answers.
 ghost use mathlib.Core.Path.{_≡_};
 ghost use Rattle.meaning.specs.Edition.{one};
-ghost use Rattle.meaning.specs.Refusals.{refusalOf};
+ghost use Rattle.meaning.specs.Refusals.{refusalOf, at, nowhere};
 
 // The numbers that an edition fixes.
 pub struct Edition {
@@ -53,6 +53,26 @@ pub fn refuse(number: u64, named: Named) -> Refusal
         number: number,
         named: named,
     }
+}
+
+// A refusal that names a slot.
+pub fn refuse_at(number: u64, slot: usize) -> Refusal
+    ensures { λ r. ⌜ r ≡ at number slot ⌝ }
+{
+    refuse(number, Named::Slot(slot as u64))
+}
+
+// A refusal that names no slot.
+pub fn refuse_nowhere(number: u64) -> Refusal
+    ensures { λ r. ⌜ r ≡ nowhere number ⌝ }
+{
+    refuse(number, Named::Nowhere)
+}
+
+// A block is visited as a root, or as a child of its parent.
+pub enum Role {
+    Root,
+    Child(usize),
 }
 
 // What a check answers.

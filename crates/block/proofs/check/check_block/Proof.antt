@@ -7,8 +7,8 @@ use Rattle.block.proofs.check.check_block.Tie as tie
 flaw-of-requires : tie.Need-flaw-of-requires
 flaw-of-requires c κs = search needs
 
-refuse-requires : tie.Need-refuse-requires
-refuse-requires c κs = search needs
+refuse-at-requires : tie.Need-refuse-at-requires
+refuse-at-requires c κs = search needs
 
 returns : tie.Need-returns
 returns c = search check-flaw
@@ -19,8 +19,8 @@ formed-of-requires c κs = search needs
 returns-2 : tie.Need-returns-2
 returns-2 c = search check-passed
 
-refuse-requires-2 : tie.Need-refuse-requires-2
-refuse-requires-2 c κs = search needs
+refuse-at-requires-2 : tie.Need-refuse-at-requires-2
+refuse-at-requires-2 c κs = search needs
 
 returns-3 : tie.Need-returns-3
 returns-3 c = search check-shape
@@ -30,9 +30,9 @@ check-block-spec =
     tie.close
     (tie.spec
     flaw-of-requires
-    refuse-requires
+    refuse-at-requires
     returns
     formed-of-requires
     returns-2
-    refuse-requires-2
+    refuse-at-requires-2
     returns-3)
