@@ -14,3 +14,4 @@ pub mod OneToOne
 pub mod Walked
 pub mod Marks
 pub mod Positions
+pub mod Editions

@@ -13,6 +13,7 @@ one = record { mark = 0x4c ∷ 0x31 ∷ []; size = 64; leaf = 48; fan = 12; top 
 -- block's children fill the payload; header and payload fit the block; every pool's largest blob is at most top high; a slot number has four bytes.
 pub record Proper (e : Edition) : Type 0 where
   pub marked : length (e .mark) ≡ 2
+  pub bytes : (i : ℕ) → getD (e .mark) i 0 < 256
   pub solid : 1 ≤ getD (e .mark) 0 0
   pub some : 1 ≤ e .leaf
   pub byte : e .leaf < 256
