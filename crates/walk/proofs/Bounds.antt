@@ -141,3 +141,13 @@ small-stop here r seen e = rw e (small-fault r seen)
 pub small-none : (e : Edition) (n : ℕ) (P R seen : List ℕ) (p from left b k : ℕ) → RowStart e n P R seen p from left b k → Small (Fine b k) seen
 unfolding Small
 small-none e n P R seen p from left b k s = s .counted
+
+-- the walk from one root
+module _ (e : Edition) (n : ℕ) (P R seen : List ℕ) (s : ℕ) (z : Sized e n P R seen) (w : s < n) where
+  pub root-in-pool : e .size * s + e .size ≤ length P
+  root-in-pool = slot-fits (e .size) n s P (z .pool) w
+
+  pub root-start : n ≤ e .most → BlockStart e n P R seen Root s 0 0
+  unfolding Within Fresh
+  root-start f =
+      record { sized = z; few = f; within = w; counted = record { leaves = omega arith; bytes = omega arith }; fresh = refl }

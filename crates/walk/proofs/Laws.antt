@@ -206,9 +206,10 @@ unfolding mapFound andThen noteBlob
 root-noted h o (fault r) = refl
 root-noted h o (fine t seen) = refl
 
-pub root-is : (e : Edition) (N : ℕ) (P R seen : List ℕ) (s : ℕ) (o : List ℕ) (h : ℕ) → h ≡ min (heightOf (block e P s)) (e .top)
-    → (r : Walked) (sx ox : List ℕ) → met r sx ox ≡ note e N P R h Root true seen s 0 0 o → met r sx ox ≡ noteRoot e N P R seen s o
+pub root-is : (e : Edition) (N : ℕ) (P R seen : List ℕ) (s : ℕ) (o : List ℕ) (b : List ℕ) → b ≡ block e P s
+    → (h : ℕ) → h ≡ min (heightOf b) (e .top) → (r : Walked) (sx ox : List ℕ)
+    → met r sx ox ≡ note e N P R h Root true seen s 0 0 o → met r sx ox ≡ noteRoot e N P R seen s o
 unfolding noteRoot fromRoot note
-root-is e N P R seen s o h eh r sx ox er =
-    er ∙ rw eh (root-noted (min (heightOf (block e P s)) (e .top)) o
+root-is e N P R seen s o b eb h eh r sx ox er =
+    er ∙ rw (eh, eb) (root-noted (min (heightOf (block e P s)) (e .top)) o
     (visit e N P R (min (heightOf (block e P s)) (e .top)) Root true seen s))
