@@ -4,6 +4,7 @@ ghost use mathlib.Core.Path.{_≡_};
 ghost use Prim.Native.Nat.{_+_, _*_, _≤_};
 ghost use lib.ListN.{length};
 ghost use Rattle.meaning.specs.Lists.{part};
+ghost use Rattle.meaning.specs.Edition.{Proper};
 ghost use Rattle.meaning.specs.Bytes.{block, recordAt};
 ghost use Rattle.meaning.specs.Change.{put};
 
@@ -34,6 +35,15 @@ pub fn block_of<'a>(e: Edition, pool: &'a [u8], slot: usize) -> &'a [u8]
     ensures { λ r. ⌜ (now r ≡ block e (now (pool .entry)) slot) × (length (now r) ≡ e .size) ⌝ }
 {
     part_of(pool, e.size, slot)
+}
+
+// Where a slot's payload starts in the pool.
+pub fn payload_start(e: Edition, pool: &[u8], slot: usize) -> usize
+    requires { ⌜ Proper e ⌝ }
+    requires { ⌜ e .size * slot + e .size ≤ length (now pool) ⌝ }
+    ensures { λ r. ⌜ r ≡ e .size * slot + 16 ⌝ }
+{
+    e.size * slot + 16
 }
 
 // A slot's record.

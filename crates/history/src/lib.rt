@@ -1,0 +1,1 @@
+// Pure laws of runs of calls, in proofs/: no code stands here.

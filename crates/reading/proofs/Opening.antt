@@ -1,0 +1,107 @@
+-- What every reading call on one blob shares: refusal 3, the blob check, and the blob behind them.
+use mathlib.Core.Path.{_≡_, refl, ap, _∙_, sym}
+use mathlib.Core.Bool.{Bool, true, false, not}
+use mathlib.Core.List.{List, [], _∷_, map}
+use Prim.Native.Nat.{ℕ, zero, suc, _+_, _*_, _≤_, _<_}
+use native.Mathlib.Omega.{arith}
+use borrow.Author.Tests.{ltb-true, not-true, not-false}
+use lib.Dec.{eqb, ltb}
+use lib.ListN.{length, getD, take, set, replicate, length-replicate, length-set}
+use lib.Seq.{take-all, take-suc-set}
+use Rattle.meaning.specs.Lists.{pick, both}
+use Rattle.meaning.specs.Bytes.{state}
+use Rattle.meaning.specs.Tree.{Blob, contentOf, leavesOf, lengthOf}
+use Rattle.meaning.specs.Refusals.{nowhere}
+use Rattle.meaning.specs.Walk.{Found, fault, fine, fromRoot, blobCheck}
+use Rattle.meaning.specs.Edition.{Proper}
+use Rattle.meaning.specs.Calls.{Outcome, refused, done, refuseIf, afterCheck, rooted, reading}
+use Rattle.meaning.specs.declared.Edition.{Edition}
+use Rattle.meaning.specs.declared.Refusal.{Refusal}
+use Rattle.laws.proofs.Inversions.{both-true}
+use Rattle.laws.proofs.Walked.{leafSlots}
+use Rattle.gate.specs.Gate.{Whole}
+use Rattle.visit.specs.Visit.{Sized}
+use Rattle.walk.specs.declared.Walked.{Walked}
+use Rattle.walk.specs.declared.Walked.the-variants.{Fault, Fine}
+use Rattle.walk.specs.Noting.{Noted, met, mapFound, putAll, noteLeaves, noteTree, noteBlob, noteRoot}
+use Rattle.reading.specs.Spelling.{openNoted}
+
+-- flags all zero are of the right length
+pub whole-sized : (e : Edition) (n : ℕ) (P R seen : List ℕ) → Whole e n P R → seen ≡ replicate n 0 → Sized e n P R seen
+whole-sized e n P R seen w s = record { pool = w .pool; records = w .records; flags = ap length s ∙ length-replicate n 0 }
+
+-- behind refusal 3 the root lies in the pool
+pub root-below : (R : List ℕ) (n r : ℕ) (t : Bool) → t ≡ both (ltb r n) (eqb (state R r) 2) → not t ≡ false → r < n
+root-below R n r t et p = ltb-true r n (both-true _ _ (sym et ∙ not-false t p) .0)
+
+-- a blob that the walk found, with what was noted of it
+pub record Blobbed (e : Edition) (n : ℕ) (P R : List ℕ) (r b k : ℕ) (o sx ox : List ℕ) : Type 0 where
+  pub blob : Blob
+  pub found : blobCheck e n P R r ≡ fine blob sx
+  pub bytes : b ≡ lengthOf blob
+  pub leaves : k ≡ length (leavesOf blob)
+  pub row : ox ≡ putAll o 0 (leafSlots blob)
+
+noted-blob : (o : List ℕ) (b k : ℕ) (ox sx : List ℕ) (F : Found Blob) → fine (record { bytes = b; leaves = k; row = ox }) sx ≡ mapFound (noteBlob o) F
+    → (c : Blob) × (F ≡ fine c sx) × (record { bytes = b; leaves = k; row = ox } ≡ noteBlob o c)
+unfolding mapFound
+noted-blob o b k ox sx (fault r) e = absurd (let z : _≡_ {A = ℕ} 0 1 = cc in omega arith)
+noted-blob o b k ox sx (fine c seen) e = (c, cc, cc)
+
+noted-fault : (o : List ℕ) (f : Refusal) (F : Found Blob) → fault f ≡ mapFound (noteBlob o) F → F ≡ fault f
+unfolding mapFound
+noted-fault o f (fault r) e = cc
+noted-fault o f (fine c seen) e = absurd (let z : _≡_ {A = ℕ} 0 1 = cc in omega arith)
+
+-- the code's two ways: not a root, or the walk's answer
+module _ (e : Edition) (n : ℕ) (P R : List ℕ) (r : ℕ) (o : List ℕ) (t : Bool) (et : t ≡ both (ltb r n) (eqb (state R r) 2)) where
+  pub open-unrooted : not t ≡ true → (q : Refusal) → q ≡ nowhere 3 → (sx ox : List ℕ) → met (Fault q) sx ox ≡ openNoted e n P R r o
+  unfolding openNoted met pick
+  open-unrooted p q eq sx ox = rw eq (simp (← et, not-true t p))
+
+  pub open-walked : not t ≡ false → (seen : List ℕ) → seen ≡ replicate n 0 → (w : Walked) (sx ox : List ℕ)
+      → met w sx ox ≡ noteRoot e n P R seen r o → met w sx ox ≡ openNoted e n P R r o
+  unfolding openNoted pick
+  open-walked p seen es w sx ox ew = ew ∙ rw es (simp (← et, not-false t p))
+
+-- what a caller learns from the answer
+pick-fine : (t : Bool) (F : Found Noted) (q : Refusal) (x : Noted) (sx : List ℕ) → fine x sx ≡ pick t F (fault q) → (t ≡ true) × (fine x sx ≡ F)
+unfolding pick
+pick-fine true F q x sx e = (refl, e)
+pick-fine false F q x sx e = (cc, cc)
+
+noted-blob-fault : (o : List ℕ) (f : Refusal) (t : Bool) (F : Found Blob) → fault f ≡ pick t (mapFound (noteBlob o) F) (fault (nowhere 3))
+    → {A : Type 0} (k : Blob → Outcome A) → refuseIf (not t) 3 (afterCheck F k) ≡ refused f
+unfolding pick refuseIf afterCheck
+noted-blob-fault o f true F e k = rw (noted-fault o f F e)
+noted-blob-fault o f false F e k = cc
+
+module _ (e : Edition) (n : ℕ) (P R : List ℕ) (r : ℕ) (o : List ℕ) (w : Walked) (sx ox : List ℕ) (ew : met w sx ox ≡ openNoted e n P R r o) where
+  pub open-fault : (f : Refusal) → w ≡ Fault f → {A : Type 0} (k : Blob → Outcome A) → reading e n P R r k ≡ refused f
+  unfolding met openNoted reading rooted noteRoot blobCheck
+  open-fault f ef k = noted-blob-fault o f (both (ltb r n) (eqb (state R r) 2)) (fromRoot e n P R (replicate n 0) r) (rw ef at ew) k
+
+  module _ (b k : ℕ) (eb : w ≡ Fine b k) where
+    opened : (both (ltb r n) (eqb (state R r) 2) ≡ true)
+        × (fine (record { bytes = b; leaves = k; row = ox }) sx ≡ noteRoot e n P R (replicate n 0) r o)
+    unfolding met openNoted
+    opened = pick-fine (both (ltb r n) (eqb (state R r) 2)) (noteRoot e n P R (replicate n 0) r o) (nowhere 3) _ sx (rw eb at ew)
+
+    pub open-below : r < n
+    open-below = ltb-true r n (both-true _ _ (opened .0) .0)
+
+    pub open-found : Blobbed e n P R r b k o sx ox
+    unfolding noteRoot noteBlob noteTree noteLeaves blobCheck lengthOf contentOf leavesOf leafSlots
+    open-found =
+        let c = noted-blob o b k ox sx (fromRoot e n P R (replicate n 0) r) (opened .1) in
+        record {
+          blob = c .0;
+          found = c .1;
+          bytes = ap (λ (x : Noted). x .bytes) (c .2) ∙ omega arith;
+          leaves = ap (λ (x : Noted). x .leaves) (c .2) ∙ omega arith;
+          row = ap (λ (x : Noted). x .row) (c .2);
+        }
+
+    pub open-reads : {A : Type 0} (f : Blob → Outcome A) → reading e n P R r f ≡ f (open-found .blob)
+    unfolding reading rooted refuseIf afterCheck
+    open-reads f = rw (opened .0, open-found .found)

@@ -1,0 +1,46 @@
+-- Past the leaves, or the slot's payload and count.
+use Rattle.reading.proofs.Answering.{leaf-past, leaf-in-pool, leaf-shown}
+use borrow.Author.Needs.{needs}
+use Rattle.reading.proofs.leaf.leaf_found.Statement.{statement}
+use Rattle.reading.proofs.leaf.leaf_found.Tie as tie
+
+refuse-nowhere-requires : tie.Need-refuse-nowhere-requires
+refuse-nowhere-requires c κs = search needs
+
+returns : tie.Need-returns
+returns c = search leaf-past
+
+mul-wide : tie.Need-mul-wide
+mul-wide c = search needs
+
+shared-slice-read-wide : tie.Need-shared-slice-read-wide
+shared-slice-read-wide c = search needs
+
+wide-requires : tie.Need-wide-requires
+wide-requires c κs = search needs
+
+block-of-requires : tie.Need-block-of-requires
+block-of-requires c κs = search leaf-in-pool
+
+count-of-requires : tie.Need-count-of-requires
+count-of-requires c κs = search needs
+
+payload-start-requires : tie.Need-payload-start-requires
+payload-start-requires c κs = (search needs, search leaf-in-pool)
+
+returns-2 : tie.Need-returns-2
+returns-2 c = search leaf-shown
+
+pub leaf-found-spec : {M : Type 1} → statement M
+leaf-found-spec =
+    tie.close
+    (tie.spec
+    refuse-nowhere-requires
+    returns
+    mul-wide
+    shared-slice-read-wide
+    wide-requires
+    block-of-requires
+    count-of-requires
+    payload-start-requires
+    returns-2)

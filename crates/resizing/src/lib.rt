@@ -1,0 +1,1 @@
+// Pure laws of resize and write, in proofs/: no code stands here.
