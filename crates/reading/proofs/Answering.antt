@@ -25,7 +25,7 @@ use Rattle.meaning.specs.declared.Finished.{Finished}
 use Rattle.meaning.specs.declared.Finished.the-variants as finished
 use Rattle.meaning.specs.declared.Leaf.{Leaf}
 use Rattle.meaning.specs.declared.Leaf.the-variants as leaf
-use Rattle.laws.proofs.Walked.{leafSlots, leafIn, leaf-slots-length, walk-leaves, walk-leaf-at, walk-shaped, block-length}
+use Rattle.laws.proofs.Walked.{leafSlots, leafIn, leaf-slots-length, LeafBlock, walk-leaves, walk-leaf-at, block-length}
 use Rattle.laws.proofs.Marks.{walk-few}
 use Rattle.laws.proofs.Positions.{blob-content, bytesOf, read-stretch}
 use Rattle.gate.specs.Gate.{Whole}
@@ -35,7 +35,7 @@ use Rattle.walk.specs.declared.Walked.the-variants.{Fault, Fine}
 use Rattle.walk.specs.Noting.{Noted, met, mapFound, putAll, noteRoot}
 use Rattle.pool.specs.Naming.{noteNamed, kept, poolNoted}
 use Rattle.reading.specs.Counting.{liveFrom}
-use Rattle.reading.specs.Spelling.{openNoted, spelt, Stretch, Readable, Reading, Below, readSpelt, showSpelt}
+use Rattle.reading.specs.Spelling.{openNoted, spelt, Stretch, Readable, Reading, Below, Lies, readSpelt, showSpelt}
 use Rattle.reading.proofs.Opening.{Blobbed, open-fault, open-below, open-found, open-reads}
 
 -- what is put from at on stands there
@@ -94,11 +94,15 @@ module _ (e : Edition) (p : Proper e) (n : ℕ) (P R : List ℕ) (w : Whole e n 
   unfolding lengthOf
   row-bytes = f .bytes ∙ ap length (sym spelt-is)
 
-  pub row-below : Below n (take k ox)
+  leaf-block : (i : ℕ) → i < length (take k ox) → LeafBlock e n P (getD (leafSlots (f .blob)) i 0)
   unfolding blobCheck
+  leaf-block i l = walk-leaf-at e p n P R (w .pool) (replicate n 0) r (f .found) lr i (rw row-slots at l) .0
+
+  pub row-below : Below e n P (take k ox)
   row-below =
       record {
-        slot = λ i l. rw row-slots (walk-leaf-at e p n P R (w .pool) (replicate n 0) r (f .found) lr i (rw row-slots at l) .0 .within);
+        slot = λ i l. rw row-slots (leaf-block i l .within);
+        count = λ i l. rw row-slots (omega (arith, leaf-block i l .count, leaf-block i l .most));
       }
 
   pub row-readable : Readable e n P (take k ox)
@@ -177,7 +181,7 @@ module _ (e : Edition) (n : ℕ) (P R : List ℕ) (r : ℕ) (o : List ℕ) (w : 
       pub found-bytes : b ≡ length (spelt e P (take k ox))
       found-bytes = row-bytes e q n P R z r b k o sx ox blob below lo
 
-      pub found-below : Below n (take k ox)
+      pub found-below : Below e n P (take k ox)
       found-below = row-below e q n P R z r b k o sx ox blob below lo
 
       pub found-readable : Readable e n P (take k ox)
@@ -209,16 +213,29 @@ module _ (e : Edition) (n : ℕ) (P row : List ℕ) (k i : ℕ) (lk : k ≤ leng
     slot-is : getD (take k row) i 0 ≡ s
     slot-is = getD-take k row i 0 l ∙ sym es
 
-    pub leaf-below : Below n (take k row) → s < n
+    pub leaf-below : Below e n P (take k row) → s < n
     leaf-below h = rw (← slot-is) (h .slot i (omega (arith, taken)))
 
-    pub leaf-in-pool : Below n (take k row) → length P ≡ e .size * n → e .size * s + e .size ≤ length P
+    pub leaf-in-pool : Below e n P (take k row) → length P ≡ e .size * n → e .size * s + e .size ≤ length P
     leaf-in-pool h z = slot-fits (e .size) n s P z (leaf-below h)
 
     pub leaf-shown : (blk : List ℕ) → blk ≡ block e P s → (c : ℕ) → c ≡ countOf blk → (a : ℕ) → a ≡ e .size * s + 16
         → leaf.At a c ≡ leafAnswer e (showSpelt e P i (take k row))
     unfolding leafAnswer showSpelt refuseIf
     leaf-shown blk eb c ec a ea = rw (ea, ec, eb) (simp (taken, lt-leb k i l, slot-is))
+
+    pub leaf-lies : Proper e → Below e n P (take k row) → length P ≡ e .size * n → (blk : List ℕ) → blk ≡ block e P s → (c : ℕ) → c ≡ countOf blk
+        → (a : ℕ) → a ≡ e .size * s + 16 → Lies (leaf.At a c) (length P)
+    unfolding Lies
+    leaf-lies p h z blk eb c ec a ea =
+        let u : countOf (block e P s) ≤ e .leaf = rw slot-is at (h .count i (omega (arith, taken))) in
+        let v : c ≡ countOf (block e P s) = ec ∙ ap countOf eb in
+        omega (arith, p .fits, leaf-in-pool h z)
+
+-- a refusal shows nothing
+pub refused-lies : (q : Refusal) (bytes : ℕ) → Lies (leaf.Refused q) bytes
+unfolding Lies
+refused-lies q bytes = tt
 
 -- refusal 10 of a read
 module _ (offset size : ℕ) (c out : List ℕ) (b : ℕ) (eb : b ≡ length c) where

@@ -11,6 +11,8 @@ use Rattle.meaning.specs.Walk.{Found, fault}
 use Rattle.walk.specs.Noting.{Noted, noteRoot}
 use Rattle.meaning.specs.Calls.{Outcome, done, refuseIf}
 use Rattle.meaning.specs.declared.Edition.{Edition}
+use Rattle.meaning.specs.declared.Leaf.{Leaf}
+use Rattle.meaning.specs.declared.Leaf.the-variants.{At, Refused}
 
 -- refusal 3, then the blob check with what it notes
 unfoldable pub openNoted : Edition → (n : ℕ) → (P R : List ℕ) → (r : ℕ) → (o : List ℕ) → Found Noted
@@ -41,9 +43,15 @@ pub record Reading (e : Edition) (n : ℕ) (P row : List ℕ) (k offset size : �
   pub fits : offset + size ≤ length (spelt e P (take k row))
   pub word : offset + size < 2 ^ 64
 
--- every slot lies in the pool
-pub record Below (n : ℕ) (slots : List ℕ) : Type 0 where
+-- every slot lies in the pool, and its count within the payload
+pub record Below (e : Edition) (n : ℕ) (P slots : List ℕ) : Type 0 where
   pub slot : (i : ℕ) → i < length slots → getD slots i 0 < n
+  pub count : (i : ℕ) → i < length slots → countOf (block e P (getD slots i 0)) ≤ e .leaf
+
+-- a leaf that is found lies in a pool of that many bytes
+unfoldable pub Lies : Leaf → (bytes : ℕ) → Type 0
+Lies (At start count) bytes = start + count ≤ bytes
+Lies (Refused r) bytes = Unit {0}
 
 unfoldable pub readSpelt : (offset size : ℕ) → List ℕ → Outcome (List ℕ)
 readSpelt offset size c = refuseIf (ltb (length c) (offset + size)) 10 (done (part offset size c) [])

@@ -9,14 +9,15 @@ ghost use Rattle.meaning.specs.Edition.{Proper};
 ghost use Rattle.meaning.specs.Calls.{showIn};
 ghost use Rattle.meaning.specs.Answers.{leafAnswer};
 ghost use Rattle.gate.specs.Gate.{Whole};
-ghost use Rattle.reading.specs.Spelling.{Below, showSpelt};
+ghost use Rattle.reading.specs.Spelling.{Below, Lies, showSpelt};
 
 // Refusal 10, or the place of leaf number i, of the leaves in the row's first k slots.
 fn leaf_found(e: Edition, pool: &[u8], row: &[u32], n: usize, k: usize, i: u64) -> Leaf
     requires { ⌜ Proper e ⌝ }
     requires { ⌜ (k ≤ length (now row)) × (length (now pool) ≡ e .size * n) ⌝ }
-    requires { ⌜ Below n (take k (now row)) ⌝ }
+    requires { ⌜ Below e n (now pool) (take k (now row)) ⌝ }
     ensures { λ r. ⌜ r ≡ leafAnswer e (showSpelt e (now (pool .entry)) i (take k (now (row .entry)))) ⌝ }
+    ensures { λ r. ⌜ Lies r (length (now (pool .entry))) ⌝ }
 {
     if k as u64 <= i {
         return Leaf::Refused(meaning::refuse_nowhere(10));
@@ -42,6 +43,7 @@ pub fn find_leaf_in(
     requires { ⌜ Whole e n (now pool) (now records) ⌝ }
     requires { ⌜ (now seen ≡ replicate n 0) × (length (now row) ≡ n) ⌝ }
     ensures { λ r. ⌜ r ≡ leafAnswer e (showIn e n (now (pool .entry)) (now (records .entry)) root i) ⌝ }
+    ensures { λ r. ⌜ Lies r (length (now (pool .entry))) ⌝ }
 {
     match crate::open::open_blob(e, pool, records, seen, row, n, root) {
         Walked::Fault(r) => Leaf::Refused(r),

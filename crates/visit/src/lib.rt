@@ -19,15 +19,16 @@ pub fn check_link(records: &[u8], seen: &[u8], n: usize, role: Role, slot: usize
     let Role::Child(parent) = role else {
         return Checked::Passed;
     };
+    let misplaced = meaning::refuse_at(8, parent);
     if n <= slot {
-        return Checked::Faulty(meaning::refuse_at(8, parent));
+        return Checked::Faulty(misplaced);
     }
     let state = record::state_of(slot::record_of(records, slot));
     if state == 2 {
-        return Checked::Faulty(meaning::refuse_at(8, parent));
+        return Checked::Faulty(misplaced);
     }
     if seen[slot] != 0 {
-        return Checked::Faulty(meaning::refuse_at(8, parent));
+        return Checked::Faulty(misplaced);
     }
     if state != 1 {
         return Checked::Faulty(meaning::refuse_at(9, slot));

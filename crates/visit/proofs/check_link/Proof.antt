@@ -25,23 +25,17 @@ record-of-requires c κs = search needs
 state-of-requires : tie.Need-state-of-requires
 state-of-requires c κs = search needs
 
-refuse-at-requires-2 : tie.Need-refuse-at-requires-2
-refuse-at-requires-2 c κs = search needs
-
 returns-3 : tie.Need-returns-3
 returns-3 c = search link-state
 
 shared-slice-read-if3 : tie.Need-shared-slice-read-if3
 shared-slice-read-if3 c = search needs
 
-refuse-at-requires-3 : tie.Need-refuse-at-requires-3
-refuse-at-requires-3 c κs = search needs
-
 returns-4 : tie.Need-returns-4
 returns-4 c = search link-seen
 
-refuse-at-requires-4 : tie.Need-refuse-at-requires-4
-refuse-at-requires-4 c κs = search needs
+refuse-at-requires-2 : tie.Need-refuse-at-requires-2
+refuse-at-requires-2 c κs = search needs
 
 returns-5 : tie.Need-returns-5
 returns-5 c = search link-free
@@ -60,11 +54,9 @@ check-link-spec =
     returns-2
     record-of-requires
     state-of-requires
-    refuse-at-requires-2
     returns-3
     shared-slice-read-if3
-    refuse-at-requires-3
     returns-4
-    refuse-at-requires-4
+    refuse-at-requires-2
     returns-5
     returns-6)

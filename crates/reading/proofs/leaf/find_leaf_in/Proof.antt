@@ -1,3 +1,4 @@
+use Rattle.reading.proofs.Answering.{leaf-refused, found-length, found-below, leaf-found, refused-lies}
 -- The refusal handed on, or the leaf in the row.
 use Rattle.reading.proofs.Answering.{leaf-refused, found-length, found-below, leaf-found}
 use borrow.Author.Needs.{needs}
@@ -23,7 +24,7 @@ same-length-2 : tie.Need-same-length-2
 same-length-2 c = search needs
 
 returns : tie.Need-returns
-returns c = search leaf-refused
+returns c = (search leaf-refused, search refused-lies)
 
 same-length-3 : tie.Need-same-length-3
 same-length-3 c = search needs
@@ -32,7 +33,7 @@ same-length-4 : tie.Need-same-length-4
 same-length-4 c = search needs
 
 returns-2 : tie.Need-returns-2
-returns-2 c = search leaf-found
+returns-2 c = (search leaf-found, search needs)
 
 pub find-leaf-in-spec : {M : Type 1} → statement M
 find-leaf-in-spec =

@@ -1,3 +1,4 @@
+use Rattle.reading.proofs.Answering.{leaf-past, leaf-in-pool, leaf-shown, leaf-lies, refused-lies}
 -- Past the leaves, or the slot's payload and count.
 use Rattle.reading.proofs.Answering.{leaf-past, leaf-in-pool, leaf-shown}
 use borrow.Author.Needs.{needs}
@@ -8,7 +9,7 @@ refuse-nowhere-requires : tie.Need-refuse-nowhere-requires
 refuse-nowhere-requires c κs = search needs
 
 returns : tie.Need-returns
-returns c = search leaf-past
+returns c = (search leaf-past, search refused-lies)
 
 mul-wide : tie.Need-mul-wide
 mul-wide c = search needs
@@ -29,7 +30,7 @@ payload-start-requires : tie.Need-payload-start-requires
 payload-start-requires c κs = (search needs, search leaf-in-pool)
 
 returns-2 : tie.Need-returns-2
-returns-2 c = search leaf-shown
+returns-2 c = (search leaf-shown, search leaf-lies)
 
 pub leaf-found-spec : {M : Type 1} → statement M
 leaf-found-spec =

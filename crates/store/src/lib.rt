@@ -1,0 +1,2 @@
+// The store's calls, over two lent byte slices: the pool and the records.
+pub mod reads;
