@@ -1,0 +1,175 @@
+-- Write and resize: the named blob turns into another, of the same root, and the others stay. What either owes is said of the new blob only:
+-- its shape, and that its slots are distinct, and old ones or usable ones.
+use mathlib.Core.Path.{_≡_, ap, _∙_, subst}
+use mathlib.Core.List.{List, _∷_, _++_}
+use Prim.Native.Nat.{ℕ, suc, _+_, _-_, _^_, _≤_, _<_}
+use native.Mathlib.Omega.{arith}
+use borrow.Author.Tests.{ltb-false}
+use lib.Dec.{ltb}
+use lib.ListN.{length}
+use Rattle.meaning.specs.declared.Edition.{Edition}
+use Rattle.meaning.specs.Lists.{pasted, padded}
+use Rattle.meaning.specs.Edition.{Proper}
+use Rattle.meaning.specs.Bytes.{recorded, lastVersion}
+use Rattle.meaning.specs.Shape.{most, leavesFor, total}
+use Rattle.meaning.specs.Tree.{Blob, rootOf, contentOf, cellsOf, slotsOf, lengthOf}
+use Rattle.meaning.specs.Change.{Change, Store, changedBy}
+use Rattle.meaning.specs.Resize.{refilled, resized}
+use Rattle.meaning.specs.Calls.{done, slotsIn, sized, usable, writeCall, writeIn, writeOn}
+use Rattle.meaning.specs.Calls.{resizeCall, resizeIn, resizeOn, newBlocks, refuseFull, refusePast}
+use Rattle.laws.proofs.Parts.{pasted-length}
+use Rattle.resizing.proofs.Slots.{times, slots-for}
+use Rattle.resizing.proofs.Refilled.{refilled-root, refilled-content, refilled-shaped, refilled-slots}
+use Rattle.resizing.proofs.Resized.{resized-shaped, resized-padded, resized-length, resized-root, resized-slots, resized-low}
+use Rattle.sound.proofs.Slots.{by-times, Each, times-take}
+use Rattle.sound.proofs.Cells.{Every}
+use Rattle.sound.proofs.Blobs.{Lies, lies-within}
+use Rattle.again.proofs.Usable.{Usable, usable-each, usable-once}
+use Rattle.sound.proofs.Pools.{lies-live, Pool}
+use Rattle.sound.proofs.After.{Next}
+use Rattle.sound.proofs.Steps.{Turns, turns-step, turned-passes}
+use Rattle.again.proofs.Counts.{slots-few}
+use Rattle.again.proofs.Outcomes.{done-same, refuseIf-done, sized-lengths, Opens, opened-done, Among}
+use Rattle.again.proofs.Outcomes.{among-lies, among-once, changing-done, worn-done}
+use Rattle.again.proofs.Done.{Good, next-good, among-others}
+
+-- a store in which the blob of root r has become another, whose bytes are as is said of the old ones and the new
+pub record Became (e : Edition) (S S′ : Store) (r : ℕ) (Q : (old new : List ℕ) → Type 0) : Type 0 where
+  pub before : List Blob
+  pub blob : Blob
+  pub after : List Blob
+  pub made : Blob
+  pub was : Pool e (slotsIn e (S .pool)) (S .pool) (S .records) (before ++ (blob ∷ after))
+  pub at : rootOf blob ≡ r
+  pub others : Every (λ c. rootOf c ≡ r → ⊥) before × Every (λ c. rootOf c ≡ r → ⊥) after
+  pub stays : rootOf made ≡ r
+  pub bytes : Q (contentOf blob) (contentOf made)
+  pub good : Good e S′ (before ++ (made ∷ after))
+
+-- so it is where a blob of the pool turns into another
+pub turned-became : (e : Edition) → Proper e → (S : Store) → Opens e (S .pool) (S .records) → (r : ℕ) (bs : List Blob) → r < slotsIn e (S .pool)
+    → (m : Among e (slotsIn e (S .pool)) (S .pool) (S .records) r bs) → Each (λ s. recorded (S .records) s < lastVersion) (slotsOf (m .blob))
+    → (made : Blob) → Turns e (slotsIn e (S .pool)) (S .records) (m .blob) made
+    → (Q : (old new : List ℕ) → Type 0) → Q (contentOf (m .blob)) (contentOf made)
+    → Became e S (Next e (slotsIn e (S .pool)) S 1 (cellsOf (m .blob)) (cellsOf made)) r Q
+turned-became e p S o r bs low m young made t Q bytes =
+    let N : ℕ = slotsIn e (S .pool) in
+    let P = S .pool in
+    let R = S .records in
+    let l = sized-lengths e P R (o .sized) in
+    let few : N ≤ 2 ^ 32 = omega (arith, l .most, p .small) in
+    let lay = among-lies e N P R (m .before) (m .after) (m .blob) (m .was) in
+    record {
+      before = m .before;
+      blob = m .blob;
+      after = m .after;
+      made = made;
+      was = m .was;
+      at = m .at;
+      others = among-others e N P R r bs m;
+      stays = t .root ∙ m .at;
+      bytes = bytes;
+      good = next-good e S 1 (cellsOf (m .blob)) (cellsOf made) (turns-step e p N few S (m .blob) made (l .whole) (l .lines) lay young t)
+          (omega arith) o (m .before ++ (made ∷ m .after))
+          (turned-passes e p N few S (m .blob) made (l .whole) (l .lines) lay young t r (N - suc r) (m .before) (m .after) (omega arith) (m .at)
+          (m .was) (m .parted));
+    }
+
+-- a blob refilled with as many bytes
+refilled-turns : (e : Edition) (N : ℕ) (P R : List ℕ) (b : Blob) (d : List ℕ) → Lies e N P R b → ((s : ℕ) → times s (slotsOf b) ≤ 1)
+    → length d ≡ lengthOf b → Turns e N R b (refilled d b)
+refilled-turns e N P R b d lay once long =
+    let same = refilled-slots d b long in
+    record {
+      root = refilled-root d b;
+      low = unfold refilled in lay .low;
+      shape = refilled-shaped d b long e (lay .shape);
+      once = rw same once;
+      taken = rw same (λ s z h. absurd (omega arith));
+    }
+
+-- bytes with d put in at the offset, inside their length
+abbrev pub Wrote : (offset : ℕ) (d old new : List ℕ) → Type 0
+Wrote offset d old new = (offset + length d ≤ length old) × (new ≡ pasted offset d old)
+
+-- write
+pub write-done : (e : Edition) → Proper e → (S : Store) (r offset : ℕ) (d : List ℕ) {cs : List Change}
+    → writeCall e (S .pool) (S .records) r offset d ≡ done tt cs → Became e S (changedBy e cs S) r (Wrote offset d)
+unfolding writeCall writeIn writeOn refusePast lengthOf
+write-done e p S r offset d {cs} h =
+    let N : ℕ = slotsIn e (S .pool) in
+    let P = S .pool in
+    let R = S .records in
+    let o = opened-done e P R _ h in
+    let l = sized-lengths e P R (o .0 .sized) in
+    let c = changing-done e p N P R (l .whole) r (writeOn e N P R offset d) (o .1) in
+    let m = c .among in
+    let b : Blob = m .blob in
+    let w = worn-done e N P R b _ (c .then) in
+    let f = refuseIf-done (ltb (lengthOf b) (offset + length d)) 10 _ (w .1) in
+    let i = done-same (f .1) in
+    let fits : offset + length d ≤ length (contentOf b) = ltb-false (lengthOf b) (offset + length d) (f .0) in
+    let bytes : List ℕ = pasted offset d (contentOf b) in
+    let long : length bytes ≡ lengthOf b = pasted-length offset d (contentOf b) fits in
+    let lay = among-lies e N P R (m .before) (m .after) b (m .was) in
+    let t = refilled-turns e N P R b bytes lay (among-once e N P R (m .before) (m .after) b (m .was)) long in
+    let done = turned-became e p S (o .0) r (c .blobs) (c .low) m (w .0) (refilled bytes b) t (Wrote offset d)
+    (fits, refilled-content bytes b long) in
+    subst (λ (cs : List Change). Became e S (changedBy e cs S) r (Wrote offset d)) (i .1) done
+
+-- a blob resized with the usable slots, if they are enough
+resized-turns : (e : Edition) → Proper e → (N : ℕ) (P R : List ℕ) (b : Blob) (len : ℕ) → N ≤ e .most → Lies e N P R b
+    → ((s : ℕ) → times s (slotsOf b) ≤ 1)
+    → newBlocks e N P R len b ≤ length (usable e N P R) → Turns e N R b (resized e len (usable e N P R) b)
+resized-turns e p N P R b len most lay once enough =
+    let free = usable e N P R in
+    let b′ = resized e len free b in
+    let from : (s : ℕ) → times s (slotsOf b′) ≤ times s (slotsOf b) + times s free = λ s.
+    omega (arith, resized-slots e (p .some) (p .two) b (lay .shape) len free N P R enough s, times-take s (newBlocks e N P R len b) free) in
+    let usable : (s : ℕ) → times s (slotsOf b) ≡ 0 → 1 ≤ times s (slotsOf b′) → Usable N R s = λ s z h.
+    usable-each e N P R s (omega (arith, from s)) in
+    let within : Each (λ s. s < N) (slotsOf b′) = λ s h.
+    by-times s (slotsOf b) (lies-within e N P R b lay s) (λ z. usable s z h .within) in
+    let once′ : (s : ℕ) → times s (slotsOf b′) ≤ 1 = λ s.
+    by-times s (slotsOf b)
+    (λ h. by-times s free
+    (λ k. absurd (lies-live e N P R b lay s h (usable-each e N P R s k .free)))
+    (λ k. omega (arith, from s, once s)))
+    (λ z. omega (arith, from s, usable-once e N P R s)) in
+    let few : total (e .fan) (leavesFor (e .leaf) len) ≤ e .most =
+    omega (
+      arith,
+      slots-few N (slotsOf b′) within once′,
+      slots-for e (p .some) (p .two) b′ (resized-shaped e (p .some) (p .two) b (lay .shape) len free),
+      ap (λ (n : ℕ). total (e .fan) (leavesFor (e .leaf) n)) (resized-length e (p .some) (p .two) b (lay .shape) len free),
+    ) in
+    record {
+      root = resized-root e (p .some) (p .two) b (lay .shape) len free;
+      low = resized-low e (p .some) (p .two) b (lay .shape) len free few (p .room);
+      shape = resized-shaped e (p .some) (p .two) b (lay .shape) len free;
+      once = once′;
+      taken = λ s z h. let u = usable s z h in (u .within, u .free, u .young);
+    }
+
+-- resize
+pub resize-done : (e : Edition) → Proper e → (S : Store) (r len : ℕ) {cs : List Change} → resizeCall e (S .pool) (S .records) r len ≡ done tt cs
+    → Became e S (changedBy e cs S) r (λ old new. new ≡ padded len old)
+unfolding resizeCall resizeIn resizeOn refuseFull
+resize-done e p S r len {cs} h =
+    let N : ℕ = slotsIn e (S .pool) in
+    let P = S .pool in
+    let R = S .records in
+    let o = opened-done e P R _ h in
+    let l = sized-lengths e P R (o .0 .sized) in
+    let c = changing-done e p N P R (l .whole) r (resizeOn e N P R len) (o .1) in
+    let m = c .among in
+    let b : Blob = m .blob in
+    let w = worn-done e N P R b _ (c .then) in
+    let f = refuseIf-done (ltb (length (usable e N P R)) (newBlocks e N P R len b)) 11 _ (w .1) in
+    let i = done-same (f .1) in
+    let lay = among-lies e N P R (m .before) (m .after) b (m .was) in
+    let t = resized-turns e p N P R b len (l .most) lay (among-once e N P R (m .before) (m .after) b (m .was))
+    (ltb-false (length (usable e N P R)) (newBlocks e N P R len b) (f .0)) in
+    let done = turned-became e p S (o .0) r (c .blobs) (c .low) m (w .0) (resized e len (usable e N P R) b) t (λ old new. new ≡ padded len old)
+    (resized-padded e (p .some) (p .two) b (lay .shape) len (usable e N P R)) in
+    subst (λ (cs : List Change). Became e S (changedBy e cs S) r (λ old new. new ≡ padded len old)) (i .1) done
