@@ -265,12 +265,12 @@ reading-starts e n P row k offset size b lk z g eb l m w =
     record { leaves = lk; pool = z; readable = g; fits = omega arith; word = omega arith }
 
 -- the audit
-noted-fault : (g : List Blob → Noted) (f : Refusal) (F : Found (List Blob)) → fault f ≡ mapFound g F → F ≡ fault f
+pub noted-fault : (g : List Blob → Noted) (f : Refusal) (F : Found (List Blob)) → fault f ≡ mapFound g F → F ≡ fault f
 unfolding mapFound
 noted-fault g f (fault r) e = cc
 noted-fault g f (fine bs seen) e = absurd (let z : _≡_ {A = ℕ} 0 1 = cc in omega arith)
 
-noted-fine : (g : List Blob → Noted) (x : Noted) (sx : List ℕ) (F : Found (List Blob)) → fine x sx ≡ mapFound g F → (bs : List Blob) × (F ≡ fine bs sx)
+pub noted-fine : (g : List Blob → Noted) (x : Noted) (sx : List ℕ) (F : Found (List Blob)) → fine x sx ≡ mapFound g F → (bs : List Blob) × (F ≡ fine bs sx)
 unfolding mapFound
 noted-fine g x sx (fault r) e = absurd (let z : _≡_ {A = ℕ} 0 1 = cc in omega arith)
 noted-fine g x sx (fine bs seen) e = (bs, cc)
