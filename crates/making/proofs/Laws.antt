@@ -67,9 +67,9 @@ over-one plan c s i zero a b p h = absurd (omega arith)
 over-one plan c s i (suc k) a b p h =
     by-test (eqb i s)
     (λ t. let z : i ≡ s = eqb-true i s t in
-        rw (over-more plan i k, z, p, over-empty plan (suc s) k (λ j l. h j (λ q. omega arith))))
+    rw (over-more plan i k, z, p, over-empty plan (suc s) k (λ j l. h j (λ q. omega arith))))
     (λ t. let z : i ≡ s → ⊥ = eqb-false i s t in
-        rw (over-more plan i k, h i z) (over-one plan c s (suc i) k (le-but i s a z) (omega arith) p h))
+    rw (over-more plan i k, h i z) (over-one plan c s (suc i) k (le-but i s a z) (omega arith) p h))
 
 -- the lowest of the usable slots is one
 first-found : (f : ℕ → Bool) (i k s : ℕ) (rest : List ℕ) → filter f (range i k) ≡ s ∷ rest → (f s ≡ true) × (s < i + k)

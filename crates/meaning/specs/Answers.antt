@@ -5,7 +5,7 @@ use Prim.Native.Nat.{ℕ, _+_, _*_}
 use Rattle.meaning.specs.Lists.{part}
 use Rattle.meaning.specs.Refusals.{slotNumber}
 use Rattle.meaning.specs.Change.{Store}
-use Rattle.meaning.specs.Calls.{Outcome, refused, done, after}
+use Rattle.meaning.specs.Calls.{Outcome, refused, done, after, wipeCall, afterWipe}
 use Rattle.meaning.specs.declared.Edition.{Edition}
 use Rattle.meaning.specs.declared.Named.the-variants.{Nowhere}
 use Rattle.meaning.specs.declared.Refusal.{Refusal}
@@ -73,6 +73,12 @@ pub record Ends {A X : Type 0} (e : Edition) (say : Outcome A → X) (o : Outcom
   pub answer : x ≡ say o
   pub pool : P′ ≡ after e (record { pool = P; records = R }) o .pool
   pub records : R′ ≡ after e (record { pool = P; records = R }) o .records
+
+-- a wipe of pool P and records R answers x and leaves P′ and R′
+pub record Wipes (e : Edition) (P R : List ℕ) (x : Finished) (P′ R′ : List ℕ) : Type 0 where
+  pub answer : x ≡ finishAnswer (wipeCall e P R)
+  pub pool : P′ ≡ afterWipe e (record { pool = P; records = R }) .pool
+  pub records : R′ ≡ afterWipe e (record { pool = P; records = R }) .records
 
 -- a read whose outcome is o answers x and leaves out′ in the lent output
 pub record Reads (o : Outcome (List ℕ)) (x : Finished) (out out′ : List ℕ) : Type 0 where

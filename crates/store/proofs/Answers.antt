@@ -32,7 +32,7 @@ use Rattle.gate.proofs.Laws.{gate-barred, gate-behind}
 module _ (e : Edition) (ee : e ≡ one) (P R : List ℕ) (x : Opened) (ex : x ≡ gate e P R) where
   -- refusals 1 and 2
   module _ (q : Refusal) (eq : x ≡ Refused q) where
-    barred : {A : Type 0} (o : Outcome A) → opened one P R o ≡ refused q
+    pub barred : {A : Type 0} (o : Outcome A) → opened one P R o ≡ refused q
     barred o = subst (λ (y : Edition). opened y P R o ≡ refused q) ee (gate-barred e P R x ex q eq o)
 
     pub length-barred : (r : ℕ) → length.Refused q ≡ lengthAnswer (lengthCall one P R r)
@@ -55,7 +55,7 @@ module _ (e : Edition) (ee : e ≡ one) (P R : List ℕ) (x : Opened) (ex : x �
 
   -- behind them
   module _ (n : ℕ) (en : x ≡ Slots n) where
-    behind : {A : Type 0} (f : Edition → ℕ → Outcome A) → opened one P R (f one (slotsIn one P)) ≡ f e n
+    pub behind : {A : Type 0} (f : Edition → ℕ → Outcome A) → opened one P R (f one (slotsIn one P)) ≡ f e n
     behind f = subst (λ (y : Edition). opened y P R (f y (slotsIn y P)) ≡ f e n) ee (gate-behind e P R x ex n en (f e))
 
     pub length-behind : (r : ℕ) (a : Length) → a ≡ lengthAnswer (lengthIn e n P R r) → a ≡ lengthAnswer (lengthCall one P R r)

@@ -25,6 +25,10 @@ module _ (e : Edition) (ee : e ≡ one) where
   pub one-here : Proper e
   one-here = subst (λ (x : Edition). Proper x) (sym ee) one-proper
 
+  pub scratch-here : (x : List ℕ) → length x ≡ 64 → length x ≡ e .size
+  unfolding one
+  scratch-here x l = l ∙ sym (ap (λ (y : Edition). y .size) ee)
+
   module _ (P R : List ℕ) (x : Opened) (ex : x ≡ gate e P R) (n : ℕ) (en : x ≡ Slots n) where
     pub whole-here : Whole e n P R
     whole-here = gate-whole e P R x ex n en

@@ -1,0 +1,31 @@
+// The calls that change the store. A refusal writes nothing anywhere.
+use gate::Opened;
+use meaning::Created;
+use meaning::Finished;
+ghost use Rattle.meaning.specs.Edition.{one};
+ghost use Rattle.meaning.specs.Calls.{createCall};
+ghost use Rattle.meaning.specs.Answers.{createAnswer, Ends, Wipes};
+
+// Pool all zeros, each record free at version 0.
+pub fn wipe(pool: &mut [u8], records: &mut [u8]) -> Finished
+    ensures { λ r. ⌜ Wipes one (now (pool .entry)) (now (records .entry)) r (now (pool .exit)) (now (records .exit)) ⌝ }
+{
+    let e = meaning::edition_one();
+    wiping::wipe_in(e, pool, records)
+}
+
+// A new empty blob, in the lowest usable free slot.
+pub fn create(pool: &mut [u8], records: &mut [u8]) -> Created
+    ensures { λ r. ⌜ Ends one createAnswer (createCall one (now (pool .entry)) (now (records .entry))) (now (pool .entry)) (now (records .entry)) r (now (pool .exit)) (now (records .exit)) ⌝ }
+{
+    let e = meaning::edition_one();
+    let mut seen = [0u8; 1024];
+    let mut row = [0u32; 0];
+    let mut scratch = [0u8; 64];
+    match gate::open(e, pool, records) {
+        Opened::Refused(r) => Created::Refused(r),
+        Opened::Slots(n) => {
+            making::create_in(e, pool, records, &mut seen[0..n], &mut row, &mut scratch, n)
+        }
+    }
+}
