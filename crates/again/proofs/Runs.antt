@@ -138,7 +138,7 @@ module _ (e : Edition) (S : Store) (book : List (ℕ × ℕ)) (k : Booked e S bo
   }
 
   -- after a call that gives a blob another length
-  became-booked : (S′ : Store) (r len : ℕ) (Q : (old new : List ℕ) → Type 0) (c : Became e S S′ r Q) → lengthOf (c .made) ≡ len
+  became-booked : (S′ : Store) (r len : ℕ) (Q : (old new : Blob) → Type 0) (c : Became e S S′ r Q) → lengthOf (c .made) ≡ len
       → Booked e S′ ((r, len) ∷ without r book)
   unfolding tally
   became-booked S′ r len Q c long = record {
@@ -155,7 +155,7 @@ module _ (e : Edition) (S : Store) (book : List (ℕ × ℕ)) (k : Booked e S bo
   }
 
   -- after a call that leaves every length
-  same-booked : (S′ : Store) (r : ℕ) (Q : (old new : List ℕ) → Type 0) (c : Became e S S′ r Q) → lengthOf (c .made) ≡ lengthOf (c .blob)
+  same-booked : (S′ : Store) (r : ℕ) (Q : (old new : Blob) → Type 0) (c : Became e S S′ r Q) → lengthOf (c .made) ≡ lengthOf (c .blob)
       → Booked e S′ book
   same-booked S′ r Q c long = record {
     blobs = c .before ++ (c .made ∷ c .after);
@@ -197,7 +197,7 @@ module _ (e : Edition) (S : Store) (book : List (ℕ × ℕ)) (k : Booked e S bo
     resize-booked r len (refused q) h = k
     resize-booked r len (done v cs) h =
         let c = resize-done e p S r len h in
-        became-booked (changedBy e cs S) r len _ c (ap length (c .bytes) ∙ padded-length len (contentOf (c .blob)))
+        became-booked (changedBy e cs S) r len _ c (ap length (c .bytes .0) ∙ padded-length len (contentOf (c .blob)))
 
     -- delete
     delete-booked : (r : ℕ) (o : Outcome (Unit {0})) → deleteCall e (S .pool) (S .records) r ≡ o

@@ -1,6 +1,6 @@
 -- Write and resize: the named blob turns into another, of the same root, and the others stay. What either owes is said of the new blob only:
 -- its shape, and that its slots are distinct, and old ones or usable ones.
-use mathlib.Core.Path.{_≡_, ap, _∙_, subst}
+use mathlib.Core.Path.{_≡_, refl, ap, _∙_, subst}
 use mathlib.Core.List.{List, _∷_, _++_}
 use Prim.Native.Nat.{ℕ, suc, _+_, _-_, _^_, _≤_, _<_}
 use native.Mathlib.Omega.{arith}
@@ -33,8 +33,8 @@ use Rattle.again.proofs.Outcomes.{done-same, refuseIf-done, sized-lengt
 use Rattle.again.proofs.Outcomes.{among-lies, among-once, changing-done, worn-done}
 use Rattle.again.proofs.Done.{Good, next-good, among-others}
 
--- a store in which the blob of root r has become another, whose bytes are as is said of the old ones and the new
-pub record Became (e : Edition) (S S′ : Store) (r : ℕ) (Q : (old new : List ℕ) → Type 0) : Type 0 where
+-- a store in which the blob of root r has become another, of which and of the old one something is said
+pub record Became (e : Edition) (S S′ : Store) (r : ℕ) (Q : (old new : Blob) → Type 0) : Type 0 where
   pub before : List Blob
   pub blob : Blob
   pub after : List Blob
@@ -43,14 +43,15 @@ pub record Became (e : Edition) (S S′ : Store) (r : ℕ) (Q : (old new : List 
   pub at : rootOf blob ≡ r
   pub others : Every (λ c. rootOf c ≡ r → ⊥) before × Every (λ c. rootOf c ≡ r → ⊥) after
   pub stays : rootOf made ≡ r
-  pub bytes : Q (contentOf blob) (contentOf made)
+  pub bytes : Q blob made
+  pub next : S′ ≡ Next e (slotsIn e (S .pool)) S 1 (cellsOf blob) (cellsOf made)
   pub good : Good e S′ (before ++ (made ∷ after))
 
 -- so it is where a blob of the pool turns into another
 pub turned-became : (e : Edition) → Proper e → (S : Store) → Opens e (S .pool) (S .records) → (r : ℕ) (bs : List Blob) → r < slotsIn e (S .pool)
     → (m : Among e (slotsIn e (S .pool)) (S .pool) (S .records) r bs) → Each (λ s. recorded (S .records) s < lastVersion) (slotsOf (m .blob))
     → (made : Blob) → Turns e (slotsIn e (S .pool)) (S .records) (m .blob) made
-    → (Q : (old new : List ℕ) → Type 0) → Q (contentOf (m .blob)) (contentOf made)
+    → (Q : (old new : Blob) → Type 0) → Q (m .blob) made
     → Became e S (Next e (slotsIn e (S .pool)) S 1 (cellsOf (m .blob)) (cellsOf made)) r Q
 turned-became e p S o r bs low m young made t Q bytes =
     let N : ℕ = slotsIn e (S .pool) in
@@ -69,6 +70,7 @@ turned-became e p S o r bs low m young made t Q bytes =
       others = among-others e N P R r bs m;
       stays = t .root ∙ m .at;
       bytes = bytes;
+      next = refl;
       good = next-good e S 1 (cellsOf (m .blob)) (cellsOf made) (turns-step e p N few S (m .blob) made (l .whole) (l .lines) lay young t)
           (omega arith) o (m .before ++ (made ∷ m .after))
           (turned-passes e p N few S (m .blob) made (l .whole) (l .lines) lay young t r (N - suc r) (m .before) (m .after) (omega arith) (m .at)
@@ -88,9 +90,16 @@ refilled-turns e N P R b d lay once long =
       taken = rw same (λ s z h. absurd (omega arith));
     }
 
--- bytes with d put in at the offset, inside their length
-abbrev pub Wrote : (offset : ℕ) (d old new : List ℕ) → Type 0
-Wrote offset d old new = (offset + length d ≤ length old) × (new ≡ pasted offset d old)
+-- a blob with d put in at the offset, inside its length, in the same slots
+abbrev pub Wrote : (offset : ℕ) (d : List ℕ) (old new : Blob) → Type 0
+Wrote offset d old new =
+    (offset + length d ≤ length (contentOf old)) × (contentOf new ≡ pasted offset d (contentOf old)) × (slotsOf new ≡ slotsOf old)
+
+-- a blob resized with the free slots of a store
+abbrev pub Sized : Edition → Store → (len : ℕ) (old new : Blob) → Type 0
+Sized e S len old new =
+    (contentOf new ≡ padded len (contentOf old)) × (new ≡ resized e len (usable e (slotsIn e (S .pool)) (S .pool) (S .records)) old)
+    × (newBlocks e (slotsIn e (S .pool)) (S .pool) (S .records) len old ≤ length (usable e (slotsIn e (S .pool)) (S .pool) (S .records)))
 
 -- write
 pub write-done : (e : Edition) → Proper e → (S : Store) (r offset : ℕ) (d : List ℕ) {cs : List Change}
@@ -114,7 +123,7 @@ write-done e p S r offset d {cs} h =
     let lay = among-lies e N P R (m .before) (m .after) b (m .was) in
     let t = refilled-turns e N P R b bytes lay (among-once e N P R (m .before) (m .after) b (m .was)) long in
     let done = turned-became e p S (o .0) r (c .blobs) (c .low) m (w .0) (refilled bytes b) t (Wrote offset d)
-    (fits, refilled-content bytes b long) in
+    (fits, refilled-content bytes b long, refilled-slots bytes b long) in
     subst (λ (cs : List Change). Became e S (changedBy e cs S) r (Wrote offset d)) (i .1) done
 
 -- a blob resized with the usable slots, if they are enough
@@ -153,7 +162,7 @@ resized-turns e p N P R b len most lay once enough =
 
 -- resize
 pub resize-done : (e : Edition) → Proper e → (S : Store) (r len : ℕ) {cs : List Change} → resizeCall e (S .pool) (S .records) r len ≡ done tt cs
-    → Became e S (changedBy e cs S) r (λ old new. new ≡ padded len old)
+    → Became e S (changedBy e cs S) r (Sized e S len)
 unfolding resizeCall resizeIn resizeOn refuseFull
 resize-done e p S r len {cs} h =
     let N : ℕ = slotsIn e (S .pool) in
@@ -168,8 +177,8 @@ resize-done e p S r len {cs} h =
     let f = refuseIf-done (ltb (length (usable e N P R)) (newBlocks e N P R len b)) 11 _ (w .1) in
     let i = done-same (f .1) in
     let lay = among-lies e N P R (m .before) (m .after) b (m .was) in
-    let t = resized-turns e p N P R b len (l .most) lay (among-once e N P R (m .before) (m .after) b (m .was))
-    (ltb-false (length (usable e N P R)) (newBlocks e N P R len b) (f .0)) in
-    let done = turned-became e p S (o .0) r (c .blobs) (c .low) m (w .0) (resized e len (usable e N P R) b) t (λ old new. new ≡ padded len old)
-    (resized-padded e (p .some) (p .two) b (lay .shape) len (usable e N P R)) in
-    subst (λ (cs : List Change). Became e S (changedBy e cs S) r (λ old new. new ≡ padded len old)) (i .1) done
+    let enough : newBlocks e N P R len b ≤ length (usable e N P R) = ltb-false (length (usable e N P R)) (newBlocks e N P R len b) (f .0) in
+    let t = resized-turns e p N P R b len (l .most) lay (among-once e N P R (m .before) (m .after) b (m .was)) enough in
+    let done = turned-became e p S (o .0) r (c .blobs) (c .low) m (w .0) (resized e len (usable e N P R) b) t (Sized e S len)
+    (resized-padded e (p .some) (p .two) b (lay .shape) len (usable e N P R), refl, enough) in
+    subst (λ (cs : List Change). Became e S (changedBy e cs S) r (Sized e S len)) (i .1) done

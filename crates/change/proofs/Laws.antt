@@ -1,6 +1,7 @@
 -- A loop over the slots against a list of changes: one turn makes the changes of one slot, and what is left is as at the start.
 use mathlib.Core.Path.{_≡_, refl, ap, _∙_, sym}
 use mathlib.Core.List.{List, [], _∷_, _++_, map}
+use mathlib.Core.Logic.{_⊎_, inl, inr}
 use Prim.Native.Nat.{ℕ, zero, suc, _+_, _-_, _*_, _≤_, _<_}
 use native.Mathlib.Nat.{mul-comm}
 use native.Mathlib.Numerals.{add-one}
@@ -81,9 +82,14 @@ module _ (e : Edition) (n : ℕ) (plan : ℕ → List Change) (P₀ R₀ : List 
     unfolding recordAt part
     record-left = ap (take 12) (t .recordsLeft)
 
-    pub turning-end : n ≤ i → (P ≡ puts (e .size) (λ c. c .block) (over plan 0 n) P₀) × (R ≡ puts 12 (λ c. c .line) (over plan 0 n) R₀)
+    -- behind the last slot, all of it is done
+    pub pool-turned : n ≤ i → P ≡ puts (e .size) (λ c. c .block) (over plan 0 n) P₀
     unfolding puts
-    turning-end l = (sym (t .pool ∙ rw (over-none plan i n l)), sym (t .records ∙ rw (over-none plan i n l)))
+    pool-turned l = sym (t .pool ∙ rw (over-none plan i n l))
+
+    pub records-turned : n ≤ i → R ≡ puts 12 (λ c. c .line) (over plan 0 n) R₀
+    unfolding puts
+    records-turned l = sym (t .records ∙ rw (over-none plan i n l))
 
     module _ (l : i < n) where
       -- a slot in which nothing changes
@@ -125,3 +131,20 @@ block-stored w s P P′ built b eb ep = ep ∙ rw eb
 
 pub zeros-stored : (w s : ℕ) (P P′ x x′ : List ℕ) → length x ≡ w → x′ ≡ replicate (length x) 0 → P′ ≡ put w s x′ P → P′ ≡ put w s (replicate w 0) P
 zeros-stored w s P P′ x x′ l ex ep = ep ∙ rw (ex, l)
+
+-- two plans that say the same of each slot
+pub over-same : (plan plan′ : ℕ → List Change) (i k : ℕ) → ((s : ℕ) → plan s ≡ plan′ s) → over plan i k ≡ over plan′ i k
+unfolding over joined range
+over-same plan plan′ i zero h = refl
+over-same plan plan′ i (suc k) h = rw (h i) (ap (λ (l : List Change). plan′ i ++ l) (over-same plan plan′ (suc i) k h))
+
+-- one turn, whatever the plan says of the slot: nothing, or one store
+pub turning-on : (e : Edition) (n : ℕ) (plan : ℕ → List Change) (P₀ R₀ : List ℕ) (i : ℕ) (P R : List ℕ) → Turning e n plan P₀ R₀ i P R → i < n
+    → length P₀ ≡ e .size * n → length R₀ ≡ 12 * n
+    → (plan i ≡ []) ⊎ ((b : List ℕ) × (line : List ℕ) × (plan i ≡ record { slot = i; block = b; line = line } ∷ []) × (length b ≡ e .size) × (length line ≡ 12))
+    → (P′ R′ : List ℕ) → P′ ≡ puts (e .size) (λ c. c .block) (plan i) P → R′ ≡ puts 12 (λ c. c .line) (plan i) R → Turning e n plan P₀ R₀ (i + 1) P′ R′
+unfolding puts
+turning-on e n plan P₀ R₀ i P R t l lp lr (inl z) P′ R′ ep er =
+    rw (ep, er, z) (turning-skip e n plan P₀ R₀ i P R t l z)
+turning-on e n plan P₀ R₀ i P R t l lp lr (inr o) P′ R′ ep er =
+    turning-put e n plan P₀ R₀ i P R t l (o .0) (o .1) (o .2) (o .3) (o .4) lp lr P′ R′ (rw (o .2) at ep) (rw (o .2) at er)

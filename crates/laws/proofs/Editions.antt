@@ -1,5 +1,5 @@
--- Document 01's edition owes nothing. Nor does one with a larger payload, more children and room after the payload, so that no law rests on
--- numbers that only the first has.
+-- What an edition owes is met by document 01's numbers. It is met too by numbers with a larger payload, more children and room after the payload,
+-- so laws that ask for no more than `Proper` rest on nothing that only the first edition has.
 use mathlib.Core.Path.{_≡_, refl}
 use mathlib.Core.List.{[], _∷_}
 use Prim.Native.Nat.{ℕ, zero, suc, _<_}

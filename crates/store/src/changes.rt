@@ -1,10 +1,11 @@
 // The calls that change the store. A refusal writes nothing anywhere.
 use gate::Opened;
+use meaning::Changed;
 use meaning::Created;
 use meaning::Finished;
 ghost use Rattle.meaning.specs.Edition.{one};
-ghost use Rattle.meaning.specs.Calls.{createCall};
-ghost use Rattle.meaning.specs.Answers.{createAnswer, Ends, Wipes};
+ghost use Rattle.meaning.specs.Calls.{createCall, deleteCall};
+ghost use Rattle.meaning.specs.Answers.{createAnswer, changeAnswer, Ends, Wipes};
 
 // Pool all zeros, each record free at version 0.
 pub fn wipe(pool: &mut [u8], records: &mut [u8]) -> Finished
@@ -26,6 +27,35 @@ pub fn create(pool: &mut [u8], records: &mut [u8]) -> Created
         Opened::Refused(r) => Created::Refused(r),
         Opened::Slots(n) => {
             making::create_in(e, pool, records, &mut seen[0..n], &mut row, &mut scratch, n)
+        }
+    }
+}
+
+// Every block of a blob goes.
+pub fn delete(pool: &mut [u8], records: &mut [u8], root: u64) -> Changed
+    ensures { λ r. ⌜ Ends one changeAnswer (deleteCall one (now (pool .entry)) (now (records .entry)) root) (now (pool .entry)) (now (records .entry)) r (now (pool .exit)) (now (records .exit)) ⌝ }
+{
+    let e = meaning::edition_one();
+    let mut seen = [0u8; 1024];
+    let mut row = [0u32; 1024];
+    let mut heights = [0u8; 1024];
+    let mut firsts = [0u32; 1024];
+    let mut scratch = [0u8; 64];
+    match gate::open(e, pool, records) {
+        Opened::Refused(r) => Changed::Refused(r),
+        Opened::Slots(n) => {
+            clearing::delete_in(
+                e,
+                pool,
+                records,
+                &mut seen[0..n],
+                &mut row[0..n],
+                &mut heights[0..n],
+                &mut firsts[0..n],
+                &mut scratch,
+                n,
+                root,
+            )
         }
     }
 }

@@ -1,0 +1,62 @@
+-- Refusal 3, or what is behind it.
+use Rattle.clearing.proofs.Laws.{delete-unrooted, rooted-within, rooted-state}
+use borrow.Author.Needs.{needs}
+use Rattle.clearing.proofs.delete_in.Statement.{statement}
+use Rattle.clearing.proofs.delete_in.Tie as tie
+
+is-root-requires : tie.Need-is-root-requires
+is-root-requires c κs = search needs
+
+refuse-nowhere-requires : tie.Need-refuse-nowhere-requires
+refuse-nowhere-requires c κs = search needs
+
+same-length : tie.Need-same-length
+same-length c = search needs
+
+returns : tie.Need-returns
+returns c = search delete-unrooted
+
+delete-rooted-requires : tie.Need-delete-rooted-requires
+delete-rooted-requires c κs = (search needs, (search needs, (search rooted-within, search rooted-state)))
+
+same-length-2 : tie.Need-same-length-2
+same-length-2 c = search needs
+
+same-length-3 : tie.Need-same-length-3
+same-length-3 c = search needs
+
+same-length-4 : tie.Need-same-length-4
+same-length-4 c = search needs
+
+same-length-5 : tie.Need-same-length-5
+same-length-5 c = search needs
+
+same-length-6 : tie.Need-same-length-6
+same-length-6 c = search needs
+
+same-length-7 : tie.Need-same-length-7
+same-length-7 c = search needs
+
+same-length-8 : tie.Need-same-length-8
+same-length-8 c = search needs
+
+returns-2 : tie.Need-returns-2
+returns-2 c = search needs
+
+pub delete-in-spec : {M : Type 1} → statement M
+delete-in-spec =
+    tie.close
+    (tie.spec
+    is-root-requires
+    refuse-nowhere-requires
+    same-length
+    returns
+    delete-rooted-requires
+    same-length-2
+    same-length-3
+    same-length-4
+    same-length-5
+    same-length-6
+    same-length-7
+    same-length-8
+    returns-2)

@@ -1,0 +1,11 @@
+-- The three demands as theorems: Demands exports them; the other files prove their parts.
+pub mod Stores
+pub mod Faults
+pub mod Refused
+pub mod One
+pub mod Table
+pub mod Done
+pub mod Two
+pub mod Three
+pub mod Demands
+pub mod Example

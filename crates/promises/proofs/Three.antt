@@ -1,0 +1,153 @@
+-- Demand three, from the laws of histories: at every moment of a run the store passes every check, so nothing need be assumed of the moment.
+use mathlib.Core.Path.{_≡_, refl, sym, ap, subst, _∙_}
+use mathlib.Core.Logic.{_↔_, ⊎-elim}
+use mathlib.Core.Bool.{true}
+use mathlib.Core.List.{List, [], _∷_, List·Memᴰ, List·Memᴰ·head, List·Memᴰ·tail}
+use Prim.Native.Nat.{ℕ, _≤_}
+use lib.ListN.{replicate}
+use lib.ListN as list
+use Rattle.meaning.specs.declared.Edition.{Edition}
+use Rattle.meaning.specs.Edition.{Proper}
+use Rattle.meaning.specs.Bytes.{state}
+use Rattle.meaning.specs.Tree.{Blob, slotsOf}
+use Rattle.meaning.specs.Refusals.{at}
+use Rattle.meaning.specs.Walk.{fine, blobCheck, poolCheck}
+use Rattle.meaning.specs.Change.{Store}
+use Rattle.meaning.specs.Calls.{Outcome, refused, done, slotsIn, sized, auditCall}
+use Rattle.meaning.specs.Answers.{yields, refuses, shownPart}
+use Rattle.meaning.specs.Run.{Call, audit, length, read, showLeaf, saidBy, says, run}
+use Rattle.history.proofs.Slots.{Each, each-mem}
+use Rattle.history.proofs.Local.{Same}
+use Rattle.history.proofs.Started.{blank, held, FromRun, run-slots}
+use Rattle.history.proofs.Answered.{Exact, FirstOther, each-or-first}
+use Rattle.history.proofs.Demand.{Answers, reading-demand, audit-demand}
+use Rattle.sound.proofs.Slots.{marked}
+use Rattle.sound.proofs.Pools.{allSlots}
+use Rattle.again.proofs.Done.{Good}
+use Rattle.again.proofs.Runs.{run-good, good-passes}
+use Rattle.promises.proofs.Stores.{every-mem, in-middle, said-refused, refused-said, said-done}
+use Rattle.promises.specs.Demands as demands
+use Rattle.promises.specs.Demands.{AsItWas, reader, Told, Filled, DemandThree}
+
+-- what holds of every member holds of each element
+mem-each : (Q : ℕ → Type 0) (xs : List ℕ) → ((x : ℕ) → List·Memᴰ x xs → Q x) → Each Q xs
+mem-each Q [] f = tt
+mem-each Q (x ∷ xs) f = (f x (List·Memᴰ·head refl), mem-each Q xs (λ y m. f y (List·Memᴰ·tail m)))
+
+-- the first slot that differs, in the words of the demand
+first-other : (e : Edition) (P P* : List ℕ) (b : Blob) (f : FirstOther e P P* (slotsOf b)) → demands.FirstOther e P P* b (f .slot)
+first-other e P P* b f = (f .before, f .later, f .split, (λ x m. each-mem (Same e P P*) (f .same) m), f .differs)
+
+-- where the outcomes of a call on two pools are told apart exactly by its blob's blocks, so are their answers
+module _ {A : Type 0} (e : Edition) (P P* R : List ℕ) (b : Blob) (o o* : Outcome A) (x : Exact e P P* R b o o*) (values values* : A → List ℕ)
+    (agree : Each (Same e P P*) (slotsOf b) → saidBy values* o* ≡ saidBy values o) where
+  -- an answer as the writer's comes from the writer's blocks
+  said-only : saidBy values* o* ≡ saidBy values o → Each (Same e P P*) (slotsOf b)
+  said-only h =
+      ⊎-elim (λ all. all)
+      (λ f.
+      let d : Each (Same e P P*) (slotsOf b) → ⊥ = λ all.
+      f .differs (each-mem (Same e P P*) all
+      (subst (λ (l : List ℕ). List·Memᴰ (f .slot) l) (sym (f .split)) (in-middle (f .before) (f .slot) (f .later)))) in
+      let t = x .other d in
+      let here = said-refused values o (at (t .number) (t .first .slot)) (sym h ∙ refused-said values* o* _ (t .answer)) in
+      x .only (t .answer ∙ sym here))
+      (each-or-first e P P* (slotsOf b))
+
+  -- exactly
+  said-exact : (saidBy values* o* ≡ saidBy values o) ↔ AsItWas e P P* b
+  said-exact = ((λ h s m. each-mem (Same e P P*) (said-only h) m), (λ all. agree (mem-each (Same e P P*) (slotsOf b) all)))
+
+  -- otherwise refused, with the first slot that differs
+  said-other : (AsItWas e P P* b → ⊥)
+      → (n s : ℕ) × demands.FirstOther e P P* b s × (4 ≤ n) × (n ≤ 7) × (saidBy values* o* ≡ refuses (at n s))
+  said-other d =
+      let t = x .other (λ all. d (λ s m. each-mem (Same e P P*) all m)) in
+      (t .number, t .first .slot, first-other e P P* b (t .first), t .low, t .high, refused-said values* o* _ (t .answer))
+
+  -- both
+  said-told : ((saidBy values* o* ≡ saidBy values o) ↔ AsItWas e P P* b) × ((AsItWas e P P* b → ⊥)
+      → (n s : ℕ) × demands.FirstOther e P P* b s × (4 ≤ n) × (n ≤ 7) × (saidBy values* o* ≡ refuses (at n s)))
+  said-told = (said-exact, said-other)
+
+-- a shown leaf's answer, where the bytes shown are the same
+shown-said : (e : Edition) (P P* : List ℕ) (o o* : Outcome (ℕ × ℕ)) → o* ≡ o → shownPart e P* o* ≡ shownPart e P o
+    → saidBy (λ v. v .0 ∷ v .1 ∷ shownPart e P* (done v [])) o* ≡ saidBy (λ v. v .0 ∷ v .1 ∷ shownPart e P (done v [])) o
+unfolding saidBy shownPart
+shown-said e P P* (refused r) o* q h = rw q
+shown-said e P P* (done v cs) o* q h = rw q (ap (λ (l : List ℕ). yields (v .0 ∷ v .1 ∷ l)) (rw q at h))
+
+-- each reading call of a blob
+module _ (e : Edition) (N : ℕ) (S : Store) (P* : List ℕ) (r : ℕ) (a : Answers e N (S .pool) P* (S .records) r) where
+  -- length
+  length-told : Told e S P* (a .blob) (length r)
+  unfolding says
+  length-told =
+      let t = said-told e (S .pool) P* (S .records) (a .blob) _ _ (a .length) (λ n. n ∷ []) (λ n. n ∷ [])
+      (λ all. ap (saidBy (λ n. n ∷ [])) (a .length .same all)) in
+      record { answers = t .0; refuses = t .1 }
+
+  -- read
+  read-told : (offset size : ℕ) → Told e S P* (a .blob) (read r offset size)
+  unfolding says
+  read-told offset size =
+      let t = said-told e (S .pool) P* (S .records) (a .blob) _ _ (a .read offset size) (λ d. d) (λ d. d)
+      (λ all. ap (saidBy (λ d. d)) (a .read offset size .same all)) in
+      record { answers = t .0; refuses = t .1 }
+
+  -- show a leaf
+  leaf-told : (k : ℕ) → Told e S P* (a .blob) (showLeaf r k)
+  unfolding says
+  leaf-told k =
+      let t = said-told e (S .pool) P* (S .records) (a .blob) _ _ (a .show k) (λ v. v .0 ∷ v .1 ∷ shownPart e (S .pool) (done v []))
+      (λ v. v .0 ∷ v .1 ∷ shownPart e P* (done v []))
+      (λ all. shown-said e (S .pool) P* _ _ (a .show k .same all) (a .shown k all)) in
+      record { answers = t .0; refuses = t .1 }
+
+  -- any of them
+  told : (offset size k : ℕ) (c : Call) → List·Memᴰ c (length r ∷ read r offset size ∷ showLeaf r k ∷ []) → Told e S P* (a .blob) c
+  told offset size k c (List·Memᴰ·head q) = subst (Told e S P* (a .blob)) (sym q) length-told
+  told offset size k c (List·Memᴰ·tail (List·Memᴰ·head q)) = subst (Told e S P* (a .blob)) (sym q) (read-told offset size)
+  told offset size k c (List·Memᴰ·tail (List·Memᴰ·tail (List·Memᴰ·head q))) = subst (Told e S P* (a .blob)) (sym q) (leaf-told k)
+
+module _ (e : Edition) (p : Proper e) (S₀ : Store) (good : sized e (S₀ .pool) (S₀ .records) ≡ true) (calls : List Call)
+    (S : Store) (moment : List·Memᴰ S (run e S₀ calls)) (P* : List ℕ) (size : list.length P* ≡ list.length (S .pool))
+    (fill : Filled e S₀ calls P*) where
+  -- the filling, in the words of the laws
+  filled : FromRun e S₀ calls P*
+  filled x h = ⊎-elim (λ q. blank q) (λ (T, y, m, k, q). held T y m k q) (fill x h)
+
+  -- the moment's store passes every check
+  passes : (bs : List Blob) × Good e S bs
+  passes = every-mem (λ M. (bs : List Blob) × Good e M bs) (run-good e p S₀ good calls) moment
+
+  -- its pool check, with as many slots as the run has
+  checks : poolCheck e (slotsIn e (S₀ .pool)) (S .pool) (S .records)
+      ≡ fine (passes .0) (marked (replicate (slotsIn e (S .pool)) 0) (allSlots (passes .0)))
+  checks = ap (λ (n : ℕ). poolCheck e n (S .pool) (S .records)) (sym (run-slots e p S₀ good calls S moment)) ∙ good-passes e S (passes .0) (passes .1)
+
+  -- length, read and show
+  pub reading-told : (r : ℕ) → state (S .records) r ≡ 2
+      → (b : Blob) × (seen : List ℕ) × (blobCheck e (slotsIn e (S .pool)) (S .pool) (S .records) r ≡ fine b seen)
+      × ((offset size k : ℕ) (c : Call) → List·Memᴰ c (length r ∷ read r offset size ∷ showLeaf r k ∷ []) → Told e S P* b c)
+  reading-told r root =
+      let n : ℕ = slotsIn e (S₀ .pool) in
+      let a = reading-demand e p S₀ good calls S moment _ _ checks P* size filled r root in
+      let same = run-slots e p S₀ good calls S moment in
+      (a .blob, a .seen, ap (λ (n : ℕ). blobCheck e n (S .pool) (S .records) r) same ∙ a .found, told e n S P* r a)
+
+  -- the audit
+  pub audit-told : ((vs : List ℕ) × (says e (reader P* S) audit ≡ yields vs)) ↔ (P* ≡ S .pool)
+  unfolding says saidBy
+  audit-told =
+      let a = audit-demand e p S₀ good calls S moment _ _ checks P* size filled in (
+        (λ (vs, h). let (n, cs, q, v) = said-done (λ n. n ∷ []) (auditCall e P* (S .records)) vs h in a .only n cs q),
+        (λ q. (_, ap (saidBy (λ n. n ∷ [])) (a .same q))),
+      )
+
+-- demand three
+pub three : (e : Edition) → Proper e → DemandThree e
+three e p = record {
+  told = λ S₀ good calls S m P* size fill.
+      (reading-told e p S₀ good calls S m P* size fill, audit-told e p S₀ good calls S m P* size fill);
+}

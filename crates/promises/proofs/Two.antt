@@ -1,0 +1,134 @@
+-- Demand two, from the laws of shapes, of resizing, of calls that are done and of runs.
+use mathlib.Core.Path.{_≡_, refl, sym, ap, ap₂, subst, _∙_}
+use mathlib.Core.Bool.{true}
+use mathlib.Core.List.{List, [], _∷_, _++_, map, List·Memᴰ}
+use Prim.Native.Nat.{ℕ, zero, suc, _+_, _-_, _<_}
+use native.Mathlib.Omega.{arith}
+use lib.ListN as list
+use lib.Seq.{take-length}
+use Rattle.meaning.specs.declared.Edition.{Edition}
+use Rattle.meaning.specs.Lists.{part}
+use Rattle.meaning.specs.Edition.{Proper}
+use Rattle.meaning.specs.Bytes.{Cell}
+use Rattle.meaning.specs.Tree.{Tree, Blob, contentOf, cellsOf, slotsOf, lengthOf}
+use Rattle.meaning.specs.Shape.{leavesFor, total, Shaped}
+use Rattle.meaning.specs.Walk.{fine, blobCheck}
+use Rattle.meaning.specs.Change.{Store}
+use Rattle.meaning.specs.Calls.{sized, newBlocks, live}
+use Rattle.meaning.specs.Answers.{yields}
+use Rattle.meaning.specs.Run.{Call, audit, write, resize, length, read, saidBy, says, perform, run, bookOf, blocksOf}
+use Rattle.laws.proofs.Parts.{pasted-length, part-pasted}
+use Rattle.laws.proofs.Codec.{padded-length}
+use Rattle.laws.proofs.Heights.{height-enough, height-least}
+use Rattle.laws.proofs.Shapes.{shaped-leaves, shaped-height, shaped-slots, bare, blank, outline, one-shape}
+use Rattle.laws.proofs.Walked.{walk-shaped}
+use Rattle.resizing.proofs.Slots.{slots-for}
+use Rattle.resizing.proofs.Resized.{none-new}
+use Rattle.again.proofs.Outcomes.{sized-lengths}
+use Rattle.again.proofs.Done.{Good}
+use Rattle.again.proofs.Runs.{run-good, run-live, run-end}
+use Rattle.promises.proofs.Stores.{every-mem, in-middle, good-is, gives-length, gives-bytes, gives-leaf}
+use Rattle.promises.proofs.Done.{create-turns, write-turns, resize-turns, delete-turns}
+use Rattle.promises.specs.Demands.{slotsAt, blobAt, newAt, Opened, bareTree, shapeOf, Passes, Became, DemandTwo}
+
+-- two functions that agree map alike
+each-is : {A : Type 0} (f g : A → A) → ((x : A) → f x ≡ g x) → (l : List A) → map f l ≡ map g l
+each-is f g h [] = refl
+each-is f g h (x ∷ l) = ap₂ _∷_ (h x) (each-is f g h l)
+
+-- the two words for a shape
+bare-is : (h : ℕ) (t : Tree h) → bareTree h t ≡ bare blank h t
+unfolding bareTree bare blank
+bare-is zero t = refl
+bare-is (suc h) t = ap (λ (l : List (Tree h)). (0, l)) (each-is (bareTree h) (bare blank h) (bare-is h) (t .1))
+
+-- and of a blob
+shape-is : (b : Blob) → shapeOf b ≡ outline b
+unfolding shapeOf outline
+shape-is b = ap (λ (t : Tree (b .height)). record { height = b .height; tree = t }) (bare-is (b .height) (b .tree))
+
+-- what a check finds has its shape
+found-shaped : (e : Edition) → Proper e → (S : Store) (r : ℕ) (b : Blob) (seen : List ℕ) → Opened e S → r < slotsAt e S → blobAt e S r ≡ fine b seen
+    → Shaped e b
+unfolding blobCheck
+found-shaped e p S r b seen o low h =
+    walk-shaped e p (slotsAt e S) (S .pool) (S .records) (sized-lengths e (S .pool) (S .records) (o .lengths) .whole) _ r h low
+
+-- new blocks needed
+needed : (e : Edition) → Proper e → (S : Store) (len : ℕ) (b : Blob) → Shaped e b
+    → newAt e S len b ≡ total (e .fan) (leavesFor (e .leaf) len) - list.length (slotsOf b)
+unfolding newBlocks
+needed e p S len b s = ap (λ (n : ℕ). total (e .fan) (leavesFor (e .leaf) len) - n) (sym (shaped-slots e (p .some) (p .two) b s))
+
+-- a blob that was made is alive
+made-alive : (e : Edition) (S S′ : Store) (taken : ℕ) (gone : List Blob) (b : Blob) (old new : List (ℕ × Cell))
+    → Became e S S′ taken gone (b ∷ []) old new → (bs : List Blob) × Passes e S′ bs × List·Memᴰ b bs
+made-alive e S S′ taken gone b old new c = (c .before ++ (b ∷ c .after), c .is, in-middle (c .before) b (c .after))
+
+-- after a resize, the length
+length-then : (e : Edition) → Proper e → (S : Store) (r len : ℕ) (vs : List ℕ) → says e S (resize r len) ≡ yields vs
+    → says e (perform e S (resize r len)) (length r) ≡ yields (len ∷ [])
+unfolding lengthOf
+length-then e p S r len vs h =
+    let (b, b′, at, stays, is, bytes, old, new, c, f) = resize-turns e p S r len vs h in
+    let (bs, g, m) = made-alive e S (perform e S (resize r len)) 1 (b ∷ []) b′ (cellsOf b) (cellsOf b′) c in
+    let says-so = gives-length e p (perform e S (resize r len)) bs b′ g m in
+    let long : lengthOf b′ ≡ len = ap list.length bytes ∙ padded-length len (contentOf b) in
+    subst (λ (s : ℕ). says e (perform e S (resize r len)) (length s) ≡ yields (len ∷ [])) stays (says-so ∙ ap (λ (n : ℕ). yields (n ∷ [])) long)
+
+-- after a write, the bytes
+bytes-then : (e : Edition) → Proper e → (S : Store) (r offset : ℕ) (d vs : List ℕ) → says e S (write r offset d) ≡ yields vs
+    → says e (perform e S (write r offset d)) (read r offset (list.length d)) ≡ yields d
+unfolding lengthOf
+bytes-then e p S r offset d vs h =
+    let (b, b′, at, stays, fits, bytes, slots, c) = write-turns e p S r offset d vs h in
+    let S′ = perform e S (write r offset d) in
+    let (bs, g, m) = made-alive e S S′ 1 (b ∷ []) b′ (cellsOf b) (cellsOf b′) c in
+    let long : lengthOf b′ ≡ lengthOf b = ap list.length bytes ∙ pasted-length offset d (contentOf b) fits in
+    let says-so = gives-bytes e p S′ bs b′ g m offset (list.length d) (omega arith) in
+    let same : part offset (list.length d) (contentOf b′) ≡ d =
+    ap (part offset (list.length d)) bytes ∙ part-pasted offset d (contentOf b) fits in
+    subst (λ (s : ℕ). says e S′ (read s offset (list.length d)) ≡ yields d) stays (says-so ∙ ap yields same)
+
+-- each moment of a run
+moment-passes : (e : Edition) → Proper e → (S : Store) → sized e (S .pool) (S .records) ≡ true → (calls : List Call) (M : Store)
+    → List·Memᴰ M (run e S calls) → (bs : List Blob) × Passes e M bs
+moment-passes e p S h calls M m =
+    let (bs, g) = every-mem (λ M. (bs : List Blob) × Good e M bs) (run-good e p S h calls) m in (bs, good-is e M bs g)
+
+-- after all of its calls: its live slots
+end-live : (e : Edition) → Proper e → (S : Store) → sized e (S .pool) (S .records) ≡ true → (calls : List Call) (M : Store)
+    → M ≡ list.getD (run e S calls) (list.length calls) S
+    → list.length (live e (slotsAt e M) (M .pool) (M .records)) ≡ blocksOf e (bookOf e S calls)
+end-live e p S h calls M q =
+    run-live e p S h calls (list.length calls) (omega arith) M S q ∙ ap (λ (l : List Call). blocksOf e (bookOf e S l)) (take-length calls)
+
+-- and its audit
+end-audit : (e : Edition) → Proper e → (S : Store) → sized e (S .pool) (S .records) ≡ true → (calls : List Call) (M : Store)
+    → M ≡ list.getD (run e S calls) (list.length calls) S → says e M audit ≡ yields (blocksOf e (bookOf e S calls) ∷ [])
+unfolding says saidBy
+end-audit e p S h calls M q = ap (saidBy (λ n. n ∷ [])) (run-end e p S h calls M S q)
+
+-- demand two
+pub two : (e : Edition) → Proper e → DemandTwo e
+two e p = record {
+  shaped = found-shaped e p;
+  leaves = shaped-leaves e (p .some) (p .two);
+  height = shaped-height e (p .some) (p .two);
+  least = λ n. (height-enough (e .fan) n (p .two), λ d. height-least (e .fan) n d (p .two));
+  blocks = slots-for e (p .some) (p .two);
+  one-shape = λ a b s t q. shape-is a ∙ one-shape e (p .some) (p .two) a b s t q ∙ sym (shape-is b);
+  gives-length = gives-length e p;
+  gives-bytes = gives-bytes e p;
+  gives-leaf = gives-leaf e p;
+  created = create-turns e p;
+  wrote = write-turns e p;
+  resized = resize-turns e p;
+  deleted = delete-turns e p;
+  then-length = length-then e p;
+  then-bytes = bytes-then e p;
+  needs = needed e p;
+  shorter = λ S len b s less. none-new e (p .some) (p .two) b s len [] (slotsAt e S) (S .pool) (S .records) less;
+  runs = moment-passes e p;
+  sum = λ S h calls M q. (end-live e p S h calls M q, end-audit e p S h calls M q);
+}

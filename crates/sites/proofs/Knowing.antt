@@ -1,0 +1,236 @@
+-- What a changing call knows: from the pool check's answer, that the blob's sites may be noted; and from what is noted, `Known`.
+use mathlib.Core.Path.{_≡_, refl, ap, _∙_, sym, subst}
+use mathlib.Core.Logic.{_⊎_, inl, inr}
+use mathlib.Core.Bool.{false}
+use mathlib.Core.List.{List, [], _∷_, _++_, append-assoc, List·Memᴰ, List·Memᴰ·head, List·Memᴰ·tail, List·Memᴰ·not-nil, List·Memᴰ·cases-cons}
+use Prim.Native.Nat.{ℕ, suc, _+_, _*_, _≤_, _<_}
+use native.Mathlib.Numerals.{add-one}
+use native.Mathlib.Omega.{arith}
+use borrow.Author.Tests.{eqb-true, eqb-false, eq-eqb, lt-ltb}
+use lib.Dec.{eqb}
+use lib.ListN.{length, take, set, replicate, length-set, length-replicate}
+use lib.Seq.{take-suc-set}
+use Rattle.meaning.specs.declared.Edition.{Edition}
+use Rattle.meaning.specs.declared.Refusal.{Refusal}
+use Rattle.meaning.specs.Lists.{pick, both}
+use Rattle.meaning.specs.Edition.{Proper}
+use Rattle.meaning.specs.Bytes.{state}
+use Rattle.meaning.specs.Tree.{Blob, rootOf, contentOf, leavesOf, lengthOf}
+use Rattle.meaning.specs.Walk.{Found, fault, fine, poolCheck}
+use Rattle.meaning.specs.Calls.{Outcome, refused, refuseIf, afterCheck, withBlob, rooted, changing}
+use Rattle.laws.proofs.Inversions.{by-test}
+use Rattle.laws.proofs.Walked.{leafSlots, leaf-slots-length}
+use Rattle.laws.proofs.Roots.{Listed, pool-names-root}
+use Rattle.walk.specs.declared.Walked.{Walked}
+use Rattle.walk.specs.declared.Walked.the-variants.{Fault, Fine}
+use Rattle.walk.specs.Noting.{Noted, met, mapFound, putAll, noteLeaves, noteTree, noteBlob}
+use Rattle.pool.specs.Naming.{kept, noteIfNamed, noteNamed, poolNoted}
+use Rattle.growth.specs.Sites.{sitesOf}
+use Rattle.growth.proofs.Resized.{Standing}
+use Rattle.growth.proofs.Pools.{pool-standing}
+use Rattle.sites.specs.Spelt.{blobAt}
+use Rattle.sites.specs.Marks.{tall, begin, Marked, SitesStart}
+use Rattle.sites.specs.Known.{Known, Surveyed}
+use Rattle.sites.proofs.Walks.{WalkedTo, pool-walked, walk-spelt, walked-few, walked-start}
+use Rattle.sites.proofs.Rows.{puts-length, site-here, site-count, sites-said}
+
+-- what is put from at on stands there
+put-there : (l : List ℕ) (at : ℕ) (xs : List ℕ) → at + length xs ≤ length l → take (at + length xs) (putAll l at xs) ≡ take at l ++ xs
+unfolding putAll
+put-there l at [] h = let z : at + 0 ≡ at = omega arith in rw z (sym (append-none (take at l)))
+  where
+    append-none : (a : List ℕ) → a ++ [] ≡ a
+    append-none [] = refl
+    append-none (x ∷ a) = ap (λ (b : List ℕ). x ∷ b) (append-none a)
+put-there l at (x ∷ xs) h =
+    let z : at + suc (length xs) ≡ at + 1 + length xs = omega arith in
+    let k : at + 1 + length xs ≤ length (set l at x) = rw length-set (omega arith) in
+    let s : take (at + 1) (set l at x) ≡ take at l ++ (x ∷ []) = rw add-one (take-suc-set l at x (omega arith)) in
+    rw z (put-there (set l at x) (at + 1) xs k ∙ ap (λ (a : List ℕ). a ++ xs) s ∙ append-assoc (take at l) (x ∷ []) xs)
+
+put-length : (l : List ℕ) (at : ℕ) (xs : List ℕ) → length (putAll l at xs) ≡ length l
+unfolding putAll
+put-length l at [] = refl
+put-length l at (x ∷ xs) = put-length (set l at x) (at + 1) xs ∙ length-set l at x
+
+-- what was noted tells of the blob: its length, its leaves and their slots
+record Tells (n : ℕ) (b : Blob) (x : Noted) : Type 0 where
+  bytes : x .bytes ≡ lengthOf b
+  leaves : x .leaves ≡ length (leavesOf b)
+  slots : take (x .leaves) (x .row) ≡ leafSlots b
+  size : length (x .row) ≡ n
+
+blob-tells : (n : ℕ) (b : Blob) (o : List ℕ) → length o ≡ n → length (leavesOf b) ≤ n → Tells n b (noteBlob o b)
+unfolding noteBlob noteTree noteLeaves lengthOf contentOf leavesOf leafSlots
+blob-tells n b o lo few =
+    let s : length (leafSlots b) ≡ length (leavesOf b) = leaf-slots-length b in
+    let q = put-there o 0 (leafSlots b) (omega arith) in
+    let m : 0 + length (leavesOf b) ≡ 0 + length (leafSlots b) = omega arith in
+    record {
+      bytes = omega arith;
+      leaves = omega arith;
+      slots = ap (λ (i : ℕ). take i (putAll o 0 (leafSlots b))) m ∙ q;
+      size = put-length o 0 (leafSlots b) ∙ lo;
+    }
+
+-- among blobs of which those with root r are b, the noted one is b
+module _ (n r : ℕ) (b : Blob) (few : length (leavesOf b) ≤ n) where
+  abbrev Only : List Blob → Type 0
+  Only bs = (c : Blob) → List·Memᴰ c bs → rootOf c ≡ r → c ≡ b
+
+  named-tells : (x : Noted) (c : Blob) → length (x .row) ≡ n → c ≡ b → Tells n b (noteBlob (x .row) c)
+  named-tells x c size q = rw q (blob-tells n b (x .row) size few)
+
+  kept-tells : (bs : List Blob) → Only bs → (x : Noted) → Tells n b x → Tells n b (noteNamed r x bs)
+  unfolding noteNamed noteIfNamed pick
+  kept-tells [] only x t = t
+  kept-tells (c ∷ bs) only x t =
+      kept-tells bs (λ d m. only d (List·Memᴰ·tail m)) (noteIfNamed r x c)
+      (by-test (eqb (rootOf c) r)
+      (λ u. rw u (named-tells x c (t .size) (only c (List·Memᴰ·head refl) (eqb-true (rootOf c) r u))))
+      (λ u. rw u t))
+
+  got-tells : (bs : List Blob) → Only bs → List·Memᴰ b bs → rootOf b ≡ r → (x : Noted) → length (x .row) ≡ n → Tells n b (noteNamed r x bs)
+  unfolding noteNamed noteIfNamed pick
+  got-tells [] only m is x size = absurd (List·Memᴰ·not-nil m)
+  got-tells (c ∷ bs) only m is x size =
+      by-test (eqb (rootOf c) r)
+      (λ u. rw u (kept-tells bs (λ d i. only d (List·Memᴰ·tail i)) (noteBlob (x .row) c)
+      (named-tells x c size (only c (List·Memᴰ·head refl) (eqb-true (rootOf c) r u)))))
+      (λ u. rw u (got-tells bs (λ d i. only d (List·Memᴰ·tail i)) (later u (List·Memᴰ·cases-cons m)) is x size))
+    where
+      later : eqb (rootOf c) r ≡ false → (b ≡ c) ⊎ List·Memᴰ b bs → List·Memᴰ b bs
+      later u (inl q) = absurd (eqb-false (rootOf c) r u (sym (ap rootOf q) ∙ is))
+      later u (inr i) = i
+
+-- a pool check that went well, and a root's slot
+module _ (e : Edition) (n : ℕ) (P R : List ℕ) {bs : List Blob} {seen : List ℕ} (passed : poolCheck e n P R ≡ fine bs seen) where
+  -- each blob that is listed is spelt from its root on
+  only-spelt : (r : ℕ) (c : Blob) → List·Memᴰ c bs → rootOf c ≡ r → c ≡ blobAt e P r
+  only-spelt r c m q =
+      let w = pool-walked e n P R passed c m in
+      walk-spelt e n P R (w .before) (rootOf c) (w .found) (w .within) ∙ ap (blobAt e P) q
+
+  module _ (r : ℕ) (within : r < n) (is : state R r ≡ 2) where
+    there : Listed r bs
+    there = pool-names-root e n P R r passed within is
+
+    there-is : there .blob ≡ blobAt e P r
+    there-is = only-spelt r (there .blob) (there .among) (there .named)
+
+    root-named : rootOf (blobAt e P r) ≡ r
+    root-named = rw (← there-is) (there .named)
+
+    root-among : List·Memᴰ (blobAt e P r) bs
+    root-among = rw (← there-is) (there .among)
+
+    root-walked : WalkedTo e n P R (blobAt e P r)
+    root-walked = pool-walked e n P R passed (blobAt e P r) root-among
+
+    root-met : {A : Type 0} (f : Blob → Outcome A) → withBlob r f bs ≡ f (blobAt e P r)
+    root-met f = there .met f ∙ ap f there-is
+
+-- the answer of the pool check, turned round
+noted-fault : (g : List Blob → Noted) (f : Refusal) (F : Found (List Blob)) → fault f ≡ mapFound g F → F ≡ fault f
+unfolding mapFound
+noted-fault g f (fault r) e = cc
+noted-fault g f (fine bs seen) e = absurd (let z : _≡_ {A = ℕ} 0 1 = cc in omega arith)
+
+noted-fine : (g : List Blob → Noted) (x : Noted) (sx : List ℕ) (F : Found (List Blob)) → fine x sx ≡ mapFound g F
+    → (bs : List Blob) × (F ≡ fine bs sx) × (x ≡ g bs)
+unfolding mapFound
+noted-fine g x sx (fault r) e = absurd (let z : _≡_ {A = ℕ} 0 1 = cc in omega arith)
+noted-fine g x sx (fine bs seen) e = (bs, cc, cc)
+
+-- behind refusal 3
+rooted-on : (e : Edition) (n : ℕ) (P R : List ℕ) (r : ℕ) → r < n → state R r ≡ 2 → {A : Type 0} (o : Outcome A) → rooted e n P R r o ≡ o
+unfolding rooted refuseIf both
+rooted-on e n P R r within is o = simp (lt-ltb r n within, eq-eqb (state R r) 2 is)
+
+-- w is the answer of the pool check
+module _ (e : Edition) (n : ℕ) (P R : List ℕ) (r : ℕ) (o : List ℕ) (w : Walked) (sx ox : List ℕ) (ew : met w sx ox ≡ poolNoted e n P R r o) where
+  -- a fault is the pool check's
+  pub survey-fault : (f : Refusal) → w ≡ Fault f → (row hs fs : List ℕ) → Surveyed e n P R r w row hs fs
+  unfolding met poolNoted Surveyed
+  survey-fault f ef row hs fs = rw ef (noted-fault (noteNamed r (kept 0 0 o)) f (poolCheck e n P R) (rw ef at ew))
+
+  module _ (within : r < n) (is : state R r ≡ 2) (len k : ℕ) (ek : w ≡ Fine len k) where
+    passed : (bs : List Blob) × (poolCheck e n P R ≡ fine bs sx) × (record { bytes = len; leaves = k; row = ox } ≡ noteNamed r (kept 0 0 o) bs)
+    unfolding met poolNoted
+    passed = noted-fine (noteNamed r (kept 0 0 o)) (record { bytes = len; leaves = k; row = ox }) sx (poolCheck e n P R) (rw ek at ew)
+
+    module _ (p : Proper e) (whole : length P ≡ e .size * n) (most : n ≤ e .most) (hs fs : List ℕ) (eh : hs ≡ replicate n 0) (lf : length fs ≡ n) where
+      walked : WalkedTo e n P R (blobAt e P r)
+      walked = root-walked e n P R (passed .1) r within is
+
+      named : rootOf (blobAt e P r) ≡ r
+      named = root-named e n P R (passed .1) r within is
+
+      -- the blob's sites may be noted
+      pub sites-start : SitesStart e n P hs fs r
+      sites-start =
+          subst (SitesStart e n P hs fs) named
+          (walked-start e p n P R whole most (blobAt e P r) walked hs fs (ap length eh ∙ length-replicate n 0) lf)
+
+      few : length (leavesOf (blobAt e P r)) ≤ n
+      few = walked-few e p n P R whole most (blobAt e P r) walked
+
+      tells : length o ≡ n → Tells n (blobAt e P r) (record { bytes = len; leaves = k; row = ox })
+      unfolding kept
+      tells lo =
+          rw (passed .2)
+          (got-tells n r (blobAt e P r) few (passed .0) (λ c m q. only-spelt e n P R (passed .1) r c m q)
+          (root-among e n P R (passed .1) r within is) named (kept 0 0 o) lo)
+
+      -- and once they are, all this is known
+      pub known : length o ≡ n → (hs′ fs′ : List ℕ) → Marked (sitesOf (blobAt e P r)) hs fs hs′ fs′ → Known e n P R r len k ox hs′ fs′
+      known lo hs′ fs′ noted =
+          let t = tells lo in
+          let inside = sites-start .inside in
+          let stands : Standing e R (blobAt e P r) =
+          pool-standing e p n P R whole (passed .1) (blobAt e P r) (root-among e n P R (passed .1) r within is) in
+          record {
+            blobs = passed .0;
+            seen = sx;
+            passed = passed .1;
+            among = root-among e n P R (passed .1) r within is;
+            within = within;
+            root = is;
+            named = named;
+            standing = stands;
+            bytes = t .bytes;
+            leaves = t .leaves;
+            few = omega (arith, t .leaves, few);
+            slots = t .slots;
+            heights = ap length (noted .heights) ∙ puts-length tall _ hs ∙ ap length eh ∙ length-replicate n 0;
+            firsts = ap length (noted .firsts) ∙ puts-length begin _ fs ∙ lf;
+            sites = sites-said e n P r inside (stands .once) hs fs hs′ fs′ eh lf noted;
+            fit = λ s x q.
+                let a = site-here e n P r inside s x q in
+                (a .fit, a .row, site-count e n P r inside p whole s x q);
+          }
+
+      pub survey-known : length o ≡ n → (hs′ fs′ : List ℕ) → Marked (sitesOf (blobAt e P r)) hs fs hs′ fs′ → Surveyed e n P R r w ox hs′ fs′
+      unfolding Surveyed
+      survey-known lo hs′ fs′ noted = rw ek (known lo hs′ fs′ noted)
+
+-- what a caller of the survey learns from its answer
+module _ (e : Edition) (n : ℕ) (P R : List ℕ) (r : ℕ) (w : Walked) (row hs fs : List ℕ) (survey : Surveyed e n P R r w row hs fs) where
+  -- at a fault, that a changing call is refused so
+  pub surveyed-fault : (f : Refusal) → w ≡ Fault f → r < n → state R r ≡ 2 → {A : Type 0} (k : Blob → Outcome A) → changing e n P R r k ≡ refused f
+  unfolding Surveyed changing afterCheck
+  surveyed-fault f ef within is k =
+      let q : poolCheck e n P R ≡ fault f = rw ef at survey in
+      rooted-on e n P R r within is _ ∙ rw q
+
+  -- and else all that is known
+  pub surveyed-known : (len k : ℕ) → w ≡ Fine len k → Known e n P R r len k row hs fs
+  unfolding Surveyed
+  surveyed-known len k ek = rw ek at survey
+
+-- a changing call is what it does on that blob
+pub known-changing : (e : Edition) (n : ℕ) (P R : List ℕ) (r len k : ℕ) (row hs fs : List ℕ) → Known e n P R r len k row hs fs
+    → {A : Type 0} (f : Blob → Outcome A) → changing e n P R r f ≡ f (blobAt e P r)
+unfolding changing afterCheck
+known-changing e n P R r len k row hs fs g f =
+    rooted-on e n P R r (g .within) (g .root) _ ∙ rw (g .passed) (root-met e n P R (g .passed) r (g .within) (g .root) f)

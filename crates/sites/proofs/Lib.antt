@@ -1,0 +1,5 @@
+pub mod Laws
+pub mod Bounds
+pub mod Walks
+pub mod Rows
+pub mod Knowing

@@ -1,0 +1,3 @@
+pub mod Spelt
+pub mod Marks
+pub mod Known

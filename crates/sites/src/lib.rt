@@ -1,0 +1,131 @@
+// Where the blocks of a blob stand: for each slot the height of its block and the number of its first leaf, noted in two lent rows.
+// The blob was found by the pool check, so nothing is checked here.
+use meaning::Edition;
+use walk::Walked;
+ghost use mathlib.Core.Path.{_≡_};
+ghost use Prim.Native.Nat.{_+_, _*_, _^_, _≤_, _<_};
+ghost use lib.ListN.{length, drop, set, replicate};
+ghost use Rattle.meaning.specs.Lists.{fours};
+ghost use Rattle.meaning.specs.Edition.{Proper};
+ghost use Rattle.meaning.specs.Bytes.{block, state};
+ghost use Rattle.growth.specs.Sites.{sitesOf};
+ghost use Rattle.visit.specs.Visit.{Sized};
+ghost use Rattle.sites.specs.Spelt.{blobAt, treeSites, rowSites, treeLeaves, rowLeaves};
+ghost use Rattle.sites.specs.Marks.{Marked, BlockStart, RowStart, SitesStart};
+ghost use Rattle.sites.specs.Known.{Surveyed};
+
+// Notes one block: one more than its height, and its first leaf.
+fn note_slot(heights: &mut [u8], firsts: &mut [u32], slot: usize, h: usize, first: usize)
+    requires { ⌜ (slot < length (now heights)) × (slot < length (now firsts)) ⌝ }
+    requires { ⌜ (h < 255) × (first < 2 ^ 32) ⌝ }
+    ensures { λ _. ⌜ (now (heights .exit) ≡ set (now (heights .entry)) slot (h + 1)) × (now (firsts .exit) ≡ set (now (firsts .entry)) slot first) ⌝ }
+{
+    heights[slot] = (h + 1) as u8;
+    firsts[slot] = first as u32;
+}
+
+// Notes a block of height h and all below it, after that many leaves. Answers how many leaves there are then.
+fn note_block(
+    e: Edition,
+    pool: &[u8],
+    heights: &mut [u8],
+    firsts: &mut [u32],
+    n: usize,
+    h: usize,
+    slot: usize,
+    leaves: usize,
+) -> usize
+    requires { ⌜ Proper e ⌝ }
+    requires { ⌜ BlockStart e n (now pool) (now heights) (now firsts) h slot leaves ⌝ }
+    ensures { λ r. ⌜ Marked (treeSites e (now (pool .entry)) h leaves slot) (now (heights .entry)) (now (firsts .entry)) (now (heights .exit)) (now (firsts .exit)) ⌝ }
+    ensures { λ r. ⌜ r ≡ leaves + treeLeaves e (now (pool .entry)) h slot ⌝ }
+{
+    note_slot(heights, firsts, slot, h, leaves);
+    if h == 0 {
+        return leaves + 1;
+    }
+    let count = block::check::count_of(slot::block_of(e, pool, slot));
+    note_row(e, pool, heights, firsts, n, h - 1, slot, 0, count, leaves)
+}
+
+// Notes the children of a block from number `from` on, of which there are `left`, each of height w.
+fn note_row(
+    e: Edition,
+    pool: &[u8],
+    heights: &mut [u8],
+    firsts: &mut [u32],
+    n: usize,
+    w: usize,
+    parent: usize,
+    from: usize,
+    left: usize,
+    leaves: usize,
+) -> usize
+    requires { ⌜ Proper e ⌝ }
+    requires { ⌜ RowStart e n (now pool) (now heights) (now firsts) w parent from left leaves ⌝ }
+    ensures { λ r. ⌜ Marked (rowSites e (now (pool .entry)) w leaves (fours left (drop (16 + 4 * from) (block e (now (pool .entry)) parent)))) (now (heights .entry)) (now (firsts .entry)) (now (heights .exit)) (now (firsts .exit)) ⌝ }
+    ensures { λ r. ⌜ r ≡ leaves + rowLeaves e (now (pool .entry)) w (fours left (drop (16 + 4 * from) (block e (now (pool .entry)) parent))) ⌝ }
+{
+    if left == 0 {
+        return leaves;
+    }
+    let child = visit::child_of(e, pool, parent, from);
+    let k = note_block(e, pool, heights, firsts, n, w, child, leaves);
+    note_row(
+        e,
+        pool,
+        heights,
+        firsts,
+        n,
+        w,
+        parent,
+        from + 1,
+        left - 1,
+        k,
+    )
+}
+
+// Notes the blocks of the blob with that root.
+pub fn note_sites(
+    e: Edition,
+    pool: &[u8],
+    heights: &mut [u8],
+    firsts: &mut [u32],
+    n: usize,
+    root: usize,
+)
+    requires { ⌜ Proper e ⌝ }
+    requires { ⌜ SitesStart e n (now pool) (now heights) (now firsts) root ⌝ }
+    ensures { λ _. ⌜ Marked (sitesOf (blobAt e (now (pool .entry)) root)) (now (heights .entry)) (now (firsts .entry)) (now (heights .exit)) (now (firsts .exit)) ⌝ }
+{
+    let h = block::check::height_of(slot::block_of(e, pool, root));
+    note_block(e, pool, heights, firsts, n, h, root, 0);
+}
+
+// What every changing call on a blob starts with: the pool check, and where the blob's blocks stand.
+pub fn survey(
+    e: Edition,
+    pool: &[u8],
+    records: &[u8],
+    seen: &mut [u8],
+    row: &mut [u32],
+    heights: &mut [u8],
+    firsts: &mut [u32],
+    n: usize,
+    root: usize,
+) -> Walked
+    requires { ⌜ Proper e ⌝ }
+    requires { ⌜ Sized e n (now pool) (now records) (now seen) ⌝ }
+    requires { ⌜ (n ≤ e .most) × (now seen ≡ replicate n 0) ⌝ }
+    requires { ⌜ (root < n) × (state (now records) root ≡ 2) ⌝ }
+    requires { ⌜ (length (now row) ≡ n) × (now heights ≡ replicate n 0) ⌝ }
+    requires { ⌜ length (now firsts) ≡ n ⌝ }
+    ensures { λ r. ⌜ Surveyed e n (now (pool .entry)) (now (records .entry)) root r (now (row .exit)) (now (heights .exit)) (now (firsts .exit)) ⌝ }
+{
+    let walked = pool::check(e, pool, records, seen, row, n, root);
+    let Walked::Fine(_, _) = walked else {
+        return walked;
+    };
+    note_sites(e, pool, heights, firsts, n, root);
+    walked
+}
