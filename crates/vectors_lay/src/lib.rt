@@ -1,0 +1,3 @@
+// What every program of test vectors needs: reading a script's commands and numbers, and laying stores out byte by byte.
+pub mod lay;
+pub mod text;
