@@ -1,0 +1,227 @@
+//! The nine calls. Each makes its checks in the paper's order: "1; 2; 3 where
+//! a root is named; the blob check (length, read, show) or the pool check
+//! (create, write, resize, delete, audit); 12; 10; 11." A refusal comes before
+//! the first byte is written.
+
+use crate::bytes::{decode_record, encode_record, Content, Record, State};
+use crate::bytes::{
+    BLOCK_BYTES, LEAF_BYTES, MOST_SLOTS, PAYLOAD_START, RECORD_BYTES, WORN_VERSION,
+};
+use crate::cells::{count_usable, decode_cells, take_lowest_usable, write_out};
+use crate::refusals::Refusal;
+use crate::resize::{lengthen, shorten};
+use crate::shape::{block_total, leaf_count, leaf_share};
+use crate::walk::{blob_check, pool_check, Blob};
+
+/// "Wipe: pool all zeros; each record free, version 0." "Wipe checks 1 only."
+pub fn wipe(pool: &mut [u8], records: &mut [u8]) -> Result<(), Refusal> {
+    let slots = check_lengths(pool, records)?;
+    pool.fill(0);
+    for slot in 0..slots {
+        encode_record(records, slot, Record { state: State::Free, version: 0 });
+    }
+    Ok(())
+}
+
+/// "Create: the lowest usable free slot becomes an empty leaf and a root.
+/// Returns its slot."
+pub fn create(pool: &mut [u8], records: &mut [u8]) -> Result<u64, Refusal> {
+    let decoded = check_records(pool, records)?;
+    pool_check(pool, &decoded)?;
+    let before = decode_cells(pool, &decoded);
+    let mut after = before.clone();
+    let taken = take_lowest_usable(&mut after, State::Root, Content::empty(0));
+    let slot = taken.ok_or(Refusal::no_room())?;
+    write_out(&before, &after, pool, records);
+    Ok(slot as u64)
+}
+
+/// "Length returns L."
+pub fn length(pool: &[u8], records: &[u8], root: u64) -> Result<u64, Refusal> {
+    Ok(checked_blob(pool, records, root)?.length)
+}
+
+/// "Read fills the whole lent output from the offset; size 0 at offset L is
+/// allowed."
+pub fn read(
+    pool: &[u8],
+    records: &[u8],
+    root: u64,
+    offset: u64,
+    out: &mut [u8],
+) -> Result<(), Refusal> {
+    let blob = checked_blob(pool, records, root)?;
+    check_range(&blob, offset, out.len())?;
+    for touch in touched_leaves(&blob, offset, out.len()) {
+        let start = touch.slot * BLOCK_BYTES + PAYLOAD_START + touch.from;
+        out[touch.done..touch.done + touch.size].copy_from_slice(&pool[start..start + touch.size]);
+    }
+    Ok(())
+}
+
+/// "Write puts bytes inside the present length." "It never lengthens."
+pub fn write(
+    pool: &mut [u8],
+    records: &mut [u8],
+    root: u64,
+    offset: u64,
+    data: &[u8],
+) -> Result<(), Refusal> {
+    let (decoded, blob) = checked_pool_and_blob(pool, records, root)?;
+    check_not_worn(&decoded, &blob)?;
+    check_range(&blob, offset, data.len())?;
+    let before = decode_cells(pool, &decoded);
+    let mut after = before.clone();
+    for touch in touched_leaves(&blob, offset, data.len()) {
+        after[touch.slot].content.payload[touch.from..touch.from + touch.size]
+            .copy_from_slice(&data[touch.done..touch.done + touch.size]);
+    }
+    write_out(&before, &after, pool, records);
+    Ok(())
+}
+
+/// Longer or shorter, see `resize.rs`. "more new blocks needed than usable
+/// free slots" is 11; the need is the difference of the block totals (reading
+/// 10), so a shorter length is "Never refused with 11."
+pub fn resize(pool: &mut [u8], records: &mut [u8], root: u64, length: u64) -> Result<(), Refusal> {
+    let (decoded, blob) = checked_pool_and_blob(pool, records, root)?;
+    check_not_worn(&decoded, &blob)?;
+    let before = decode_cells(pool, &decoded);
+    let total_before = block_total(leaf_count(blob.length));
+    let needed = block_total(leaf_count(length)).saturating_sub(total_before);
+    if needed > count_usable(&before) {
+        return Err(Refusal::no_room());
+    }
+    let mut after = before.clone();
+    if length >= blob.length {
+        lengthen(&mut after, blob.root, blob.length, length)?;
+    } else {
+        shorten(&mut after, blob.root, blob.length, length);
+    }
+    write_out(&before, &after, pool, records);
+    Ok(())
+}
+
+/// "Delete: every block of the blob goes. A worn blob may be deleted."
+pub fn delete(pool: &mut [u8], records: &mut [u8], root: u64) -> Result<(), Refusal> {
+    let (decoded, blob) = checked_pool_and_blob(pool, records, root)?;
+    let before = decode_cells(pool, &decoded);
+    let mut after = before.clone();
+    for slot in blob.blocks {
+        after[slot].goes();
+    }
+    write_out(&before, &after, pool, records);
+    Ok(())
+}
+
+/// "Show a leaf: its data bytes as they lie in the pool, not a copy." Answers
+/// where they start in the pool and how many they are.
+pub fn show(pool: &[u8], records: &[u8], root: u64, leaf: u64) -> Result<(usize, usize), Refusal> {
+    let blob = checked_blob(pool, records, root)?;
+    // "the leaf number is not below n": 10. Leaves count from 0 (reading 19).
+    if leaf >= leaf_count(blob.length) {
+        return Err(Refusal::out_of_range());
+    }
+    let start = blob.leaves[leaf as usize] * BLOCK_BYTES + PAYLOAD_START;
+    Ok((start, usize::from(leaf_share(blob.length, leaf))))
+}
+
+/// "Audit returns the count of live slots."
+pub fn audit(pool: &[u8], records: &[u8]) -> Result<u64, Refusal> {
+    let decoded = check_records(pool, records)?;
+    pool_check(pool, &decoded)?;
+    let live = decoded.iter().filter(|record| record.state.is_live());
+    Ok(live.count() as u64)
+}
+
+/// Refusals 1, 2, 3 and the blob check.
+fn checked_blob(pool: &[u8], records: &[u8], root: u64) -> Result<Blob, Refusal> {
+    let decoded = check_records(pool, records)?;
+    let root = check_root(&decoded, root)?;
+    blob_check(pool, &decoded, root)
+}
+
+/// Refusals 1, 2, 3 and the pool check; hands back the named root's blob.
+fn checked_pool_and_blob(
+    pool: &[u8],
+    records: &[u8],
+    root: u64,
+) -> Result<(Vec<Record>, Blob), Refusal> {
+    let decoded = check_records(pool, records)?;
+    let root = check_root(&decoded, root)?;
+    let blobs = pool_check(pool, &decoded)?;
+    let named = blobs.into_iter().find(|blob| blob.root == root);
+    Ok((decoded, named.ok_or(Refusal::not_a_root())?))
+}
+
+/// 1: "pool length is not 64 N with N from 1 to 1,024, or records length is
+/// not 12 N". Answers N.
+fn check_lengths(pool: &[u8], records: &[u8]) -> Result<usize, Refusal> {
+    let slots = pool.len() / BLOCK_BYTES;
+    let pool_fits = pool.len().is_multiple_of(BLOCK_BYTES) && (1..=MOST_SLOTS).contains(&slots);
+    if pool_fits && records.len() == slots * RECORD_BYTES {
+        Ok(slots)
+    } else {
+        Err(Refusal::wrong_lengths())
+    }
+}
+
+/// 1, then 2: "a record breaks its layout; names the lowest such slot".
+fn check_records(pool: &[u8], records: &[u8]) -> Result<Vec<Record>, Refusal> {
+    check_lengths(pool, records)?;
+    let mut decoded = Vec::with_capacity(MOST_SLOTS);
+    for (slot, bytes) in records.chunks_exact(RECORD_BYTES).enumerate() {
+        decoded.push(decode_record(bytes).ok_or(Refusal::broken_record(slot))?);
+    }
+    Ok(decoded)
+}
+
+/// 3: "the named root is not below N, or its record is not a root". The number
+/// is compared whole (reading 7).
+fn check_root(records: &[Record], root: u64) -> Result<usize, Refusal> {
+    if root < records.len() as u64 && records[root as usize].state == State::Root {
+        Ok(root as usize)
+    } else {
+        Err(Refusal::not_a_root())
+    }
+}
+
+/// 12: "write or resize on a blob that has a block at version 2^64 - 1".
+fn check_not_worn(records: &[Record], blob: &Blob) -> Result<(), Refusal> {
+    if blob.blocks.iter().any(|slot| records[*slot].version == WORN_VERSION) {
+        return Err(Refusal::worn());
+    }
+    Ok(())
+}
+
+/// 10: "offset plus size exceeds the length", "no wrapped sum".
+fn check_range(blob: &Blob, offset: u64, size: usize) -> Result<(), Refusal> {
+    if u128::from(offset) + size as u128 > u128::from(blob.length) {
+        return Err(Refusal::out_of_range());
+    }
+    Ok(())
+}
+
+/// The touched stretch of one leaf.
+struct Touch {
+    slot: usize,
+    /// Where the stretch starts in the leaf's payload.
+    from: usize,
+    size: usize,
+    /// How many bytes of the call lie in leaves before this one.
+    done: usize,
+}
+
+/// The stretches that a range inside the length touches, left to right.
+fn touched_leaves(blob: &Blob, offset: u64, size: usize) -> Vec<Touch> {
+    let mut touches = Vec::new();
+    let mut done = 0;
+    while done < size {
+        let at = offset as usize + done;
+        let from = at % LEAF_BYTES;
+        let stretch = (LEAF_BYTES - from).min(size - done);
+        touches.push(Touch { slot: blob.leaves[at / LEAF_BYTES], from, size: stretch, done });
+        done += stretch;
+    }
+    touches
+}

@@ -1,0 +1,80 @@
+//! The model that changing calls work on: all slots decoded once, changed in
+//! memory, then compared with what they were. So a version is judged once over
+//! the whole call (reading 16) and nothing is written before all is decided.
+
+use crate::bytes::{clear_block, decode_block, encode_block, encode_record};
+use crate::bytes::{Content, Record, State, WORN_VERSION};
+
+/// One slot. `version` is the record's version before the call.
+#[derive(Clone, Copy, Debug, PartialEq, Eq)]
+pub struct Cell {
+    pub state: State,
+    pub version: u64,
+    pub content: Content,
+}
+
+impl Cell {
+    /// "A free slot is usable if its record's version is below 2^64 - 1."
+    pub fn is_usable(&self) -> bool {
+        self.state == State::Free && self.version < WORN_VERSION
+    }
+
+    /// The block goes: its slot is free and empty.
+    pub fn goes(&mut self) {
+        self.state = State::Free;
+        self.content = Content::empty(0);
+    }
+}
+
+/// All slots of a pool that has passed the pool check.
+pub fn decode_cells(pool: &[u8], records: &[Record]) -> Vec<Cell> {
+    let cell = |(slot, record): (usize, &Record)| Cell {
+        state: record.state,
+        version: record.version,
+        content: decode_block(pool, slot).content,
+    };
+    records.iter().enumerate().map(cell).collect()
+}
+
+pub fn count_usable(cells: &[Cell]) -> u64 {
+    cells.iter().filter(|cell| cell.is_usable()).count() as u64
+}
+
+/// Puts a block into "the lowest usable free slot", searched from slot 0
+/// every time, and returns that slot.
+pub fn take_lowest_usable(cells: &mut [Cell], state: State, content: Content) -> Option<usize> {
+    let slot = cells.iter().position(Cell::is_usable)?;
+    cells[slot].state = state;
+    cells[slot].content = content;
+    Some(slot)
+}
+
+/// Writes every slot that the call has changed, and no other.
+pub fn write_out(before: &[Cell], after: &[Cell], pool: &mut [u8], records: &mut [u8]) {
+    for (slot, (old, new)) in before.iter().zip(after).enumerate() {
+        match (old.state.is_live(), new.state.is_live()) {
+            (false, false) => {}
+            (true, false) => leave_free(slot, new, pool, records),
+            // "a newly taken slot has its record's old version plus one"
+            (false, true) => raise_version(slot, new, pool, records),
+            // "A slot live before and after has version plus one if its height,
+            // count or payload differs, and is otherwise unchanged in every byte."
+            (true, true) if old.content != new.content => raise_version(slot, new, pool, records),
+            (true, true) => {}
+        }
+    }
+}
+
+/// "A block that goes leaves 64 zeros and a free record that keeps its version."
+fn leave_free(slot: usize, cell: &Cell, pool: &mut [u8], records: &mut [u8]) {
+    clear_block(pool, slot);
+    encode_record(records, slot, Record { state: State::Free, version: cell.version });
+}
+
+/// "Block and record carry the same version." No worn slot comes here: taken
+/// slots are usable, and 12 refuses a change to a blob with a worn block.
+fn raise_version(slot: usize, cell: &Cell, pool: &mut [u8], records: &mut [u8]) {
+    let version = cell.version.saturating_add(1);
+    encode_block(pool, slot, version, &cell.content);
+    encode_record(records, slot, Record { state: cell.state, version });
+}

@@ -1,0 +1,28 @@
+//! A plain reference for the block store of the scope paper: two lent byte
+//! slices, the pool (untrusted blocks) and the records (trusted versions).
+//!
+//! The code follows the paper sentence by sentence and prefers clearness to
+//! speed. Comments in quotation marks cite the paper; "reading 5" and the like
+//! cite the list of readings of its open sentences.
+//!
+//! * `bytes`: the layout of a block and of a record
+//! * `shape`: how many leaves and blocks a length has
+//! * `refusals`: the twelve ways to say no
+//! * `walk`: the blob check and the pool check
+//! * `cells`: the model that changing calls work on, and the version rule
+//! * `resize`: longer and shorter, leaf by leaf
+//! * `calls`: the nine calls
+#![forbid(unsafe_code)]
+
+mod bytes;
+mod calls;
+mod cells;
+mod refusals;
+mod resize;
+mod shape;
+#[cfg(test)]
+mod tests;
+mod walk;
+
+pub use calls::{audit, create, delete, length, read, resize, show, wipe, write};
+pub use refusals::Refusal;
