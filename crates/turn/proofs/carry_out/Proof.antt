@@ -1,0 +1,115 @@
+-- Each case stores what the turn says, with the version that the slot's record has, or one more.
+use Rattle.turn.proofs.Laws.{takes-fits, renews-fits, stays-pool, stays-records, goes-pool, goes-records}
+use Rattle.turn.proofs.Laws.{takes-pool, takes-records, renews-pool, renews-records}
+use borrow.Author.Needs.{needs}
+use Rattle.turn.proofs.carry_out.Statement.{statement}
+use Rattle.turn.proofs.carry_out.Tie as tie
+
+record-of-requires : tie.Need-record-of-requires
+record-of-requires c κs = search needs
+
+state-of-requires : tie.Need-state-of-requires
+state-of-requires c κs = search needs
+
+version-of-requires : tie.Need-version-of-requires
+version-of-requires c κs = search needs
+
+enum-told : tie.Need-enum-told
+enum-told c = search needs
+
+enum-told-2 : tie.Need-enum-told-2
+enum-told-2 c = search needs
+
+put-free-requires : tie.Need-put-free-requires
+put-free-requires c κs = search needs
+
+enum-known-turn : tie.Need-enum-known-turn
+enum-known-turn c = search needs
+
+add-put-cell : tie.Need-add-put-cell
+add-put-cell c = search takes-fits
+
+put-cell-requires : tie.Need-put-cell-requires
+put-cell-requires c κs = (search needs, (search needs, (search needs, search needs)))
+
+enum-known-turn-2 : tie.Need-enum-known-turn-2
+enum-known-turn-2 c = search needs
+
+add-put-cell-2 : tie.Need-add-put-cell-2
+add-put-cell-2 c = search renews-fits
+
+put-cell-requires-2 : tie.Need-put-cell-requires-2
+put-cell-requires-2 c κs = (search needs, (search needs, (search needs, search needs)))
+
+same-length : tie.Need-same-length
+same-length c = search needs
+
+returns : tie.Need-returns
+returns c = (search stays-pool, search stays-records)
+
+same-length-2 : tie.Need-same-length-2
+same-length-2 c = search needs
+
+same-length-3 : tie.Need-same-length-3
+same-length-3 c = search needs
+
+same-length-4 : tie.Need-same-length-4
+same-length-4 c = search needs
+
+returns-2 : tie.Need-returns-2
+returns-2 c = (search goes-pool, search goes-records)
+
+same-length-5 : tie.Need-same-length-5
+same-length-5 c = search needs
+
+same-length-6 : tie.Need-same-length-6
+same-length-6 c = search needs
+
+same-length-7 : tie.Need-same-length-7
+same-length-7 c = search needs
+
+returns-3 : tie.Need-returns-3
+returns-3 c = (search takes-pool, search takes-records)
+
+same-length-8 : tie.Need-same-length-8
+same-length-8 c = search needs
+
+same-length-9 : tie.Need-same-length-9
+same-length-9 c = search needs
+
+same-length-10 : tie.Need-same-length-10
+same-length-10 c = search needs
+
+returns-4 : tie.Need-returns-4
+returns-4 c = (search renews-pool, search renews-records)
+
+pub carry-out-spec : {M : Type 1} → statement M
+carry-out-spec =
+    tie.close
+    (tie.spec
+    record-of-requires
+    state-of-requires
+    version-of-requires
+    enum-told
+    enum-told-2
+    put-free-requires
+    enum-known-turn
+    add-put-cell
+    put-cell-requires
+    enum-known-turn-2
+    add-put-cell-2
+    put-cell-requires-2
+    same-length
+    returns
+    same-length-2
+    same-length-3
+    same-length-4
+    returns-2
+    same-length-5
+    same-length-6
+    same-length-7
+    returns-3
+    same-length-8
+    same-length-9
+    same-length-10
+    returns-4)
