@@ -55,7 +55,7 @@ listed-sited (y ∷ l) s x o m = by (listed-sited l s x (o .1)) (List·Memᴰ·c
     by rest (inr i) = rw (ne-eqb (y .0) s (λ q. lacks-other l s (y .0) x (o .0) i q)) (rest i)
 
 -- and the site of a slot is listed
-sited-listed : (l : List (ℕ × Site)) (s : ℕ) (x : Site) → sited l s ≡ at x → List·Memᴰ (s, x) l
+pub sited-listed : (l : List (ℕ × Site)) (s : ℕ) (x : Site) → sited l s ≡ at x → List·Memᴰ (s, x) l
 unfolding sited pick
 sited-listed [] s x q = absurd (let z : _≡_ {A = ℕ} 0 1 = cc in omega arith)
 sited-listed (y ∷ l) s x q =
@@ -80,7 +80,7 @@ unfolding leftmost slotOf
 left-slot zero t = refl
 left-slot (suc h) t = refl
 
-left-row : (h : ℕ) (t : Tree h) → leftmost h 0 t .1 ≡ topRow h t
+pub left-row : (h : ℕ) (t : Tree h) → leftmost h 0 t .1 ≡ topRow h t
 unfolding leftmost topRow
 left-row zero t = refl
 left-row (suc h) t = refl

@@ -43,7 +43,7 @@ module _ (fan : ℕ) (two : 2 ≤ fan) where
       ∙ rw y (omega (arith, bulk-levels h, full-levels h a))
 
 -- a tree of the least height has the block total
-total-by-height : (fan : ℕ) → 2 ≤ fan → (n : ℕ) → levels fan (heightFor fan n) n ≡ total fan n
+pub total-by-height : (fan : ℕ) → 2 ≤ fan → (n : ℕ) → levels fan (heightFor fan n) n ≡ total fan n
 total-by-height fan two =
     by-share (λ n. levels fan (heightFor fan n) n ≡ total fan n) fan two
     (λ n few. rw (height-small fan n two few) (levels-zero fan n ∙ sym (total-small fan n few)))
@@ -56,7 +56,7 @@ one-less fan two = omega arith
 -- trees of any edition
 module _ (e : Edition) (some : 1 ≤ e .leaf) (two : 2 ≤ e .fan) where
   -- a tree with c leaves, after so many full ones
-  abbrev Whole : ℕ → Type 0
+  abbrev pub Whole : ℕ → Type 0
   Whole h = (q c : ℕ) → 1 ≤ c → c ≤ e .fan ^ h → (room (e .fan) h (e .fan ^ h * q + c) + c ≡ e .fan ^ h)
       × (space (e .fan) h (e .fan ^ h * q + c) + levels (e .fan) h c ≡ bulk (e .fan) h)
 
@@ -86,7 +86,7 @@ module _ (e : Edition) (some : 1 ≤ e .leaf) (two : 2 ≤ e .fan) where
       )
 
   -- so it is at every height
-  whole : (h : ℕ) → Whole h
+  pub whole : (h : ℕ) → Whole h
   unfolding room space bulk
   whole zero q c low high = (omega (arith, pow-zero (e .fan)), omega (arith, pow-zero (e .fan), levels-zero (e .fan) c))
   whole (suc h) q c low high =
@@ -101,7 +101,7 @@ module _ (e : Edition) (some : 1 ≤ e .leaf) (two : 2 ≤ e .fan) where
   -- of a shaped blob: the new leaf and the new block with which its root begins to rise
   module _ (b : Blob) (shaped : Shaped e b) where
     -- its room, and its block total, make a full tree
-    blob-whole : (room (e .fan) (b .height) (length (leavesOf b)) + length (leavesOf b) ≡ e .fan ^ b .height)
+    pub blob-whole : (room (e .fan) (b .height) (length (leavesOf b)) + length (leavesOf b) ≡ e .fan ^ b .height)
         × (space (e .fan) (b .height) (length (leavesOf b)) + total (e .fan) (length (leavesOf b)) ≡ bulk (e .fan) (b .height))
     blob-whole =
         let n = length (leavesOf b) in

@@ -1,0 +1,2 @@
+-- What the root holds at each height as it rises.
+pub mod Tops
