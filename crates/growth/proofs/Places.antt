@@ -69,7 +69,7 @@ sited-listed (y ∷ l) s x q =
     pair p q = ap₂ (λ (a : ℕ) (z : Site). (a, z)) (sym p) (sym q)
 
 -- a tree's own site comes first
-own-site : (h i : ℕ) (t : Tree h) → List·Memᴰ (slotOf h t, record { height = h; first = i; row = topRow h t }) (sites h i t)
+pub own-site : (h i : ℕ) (t : Tree h) → List·Memᴰ (slotOf h t, record { height = h; first = i; row = topRow h t }) (sites h i t)
 unfolding sites slotOf topRow
 own-site zero i t = List·Memᴰ·head refl
 own-site (suc h) i t = List·Memᴰ·head refl

@@ -1,7 +1,7 @@
 -- The root and the new blocks of a blob that gets longer, by heights and differences: at each height g, full, the blob has fan ^ g leaves and
 -- bulk g blocks, so the new block number bulk g - t takes the root's row, those up to bulk (g + 1) - t stand beside it, and what the root holds
 -- then is `topAt`. It rises to the height of the new length and no further, for each lower one is too little.
-use mathlib.Core.Path.{_≡_, refl, sym, ap, ap₂, _∙_}
+use mathlib.Core.Path.{_≡_, ap, _∙_}
 use mathlib.Core.List.{List}
 use Prim.Native.Nat.{ℕ, zero, suc, _+_, _-_, _*_, _^_, _≤_, _<_}
 use native.Mathlib.Nat.{pow-le-pow-right, mul-le-mul-right}
@@ -13,7 +13,8 @@ use Rattle.meaning.specs.Edition.{Proper}
 use Rattle.meaning.specs.Bytes.{Cell}
 use Rattle.meaning.specs.Tree.{Blob, leavesOf, lengthOf}
 use Rattle.meaning.specs.Shape.{leavesFor, total, Shaped}
-use Rattle.growth.specs.Forms.{bulk, inRow, room, space, seat, freshCell, above, rootCell, tallCell, newLeaves, newBytes, topCell, grownRoot, grownNew}
+use Rattle.growth.specs.Forms.{bulk, inRow, room, space, seat, freshCell, rootCell, tallCell}
+use Rattle.growth.specs.Forms.{newLeaves, newBytes, topCell, grownRoot, grownNew}
 use Rattle.growth.specs.Cuts.{heightOfLength}
 use Rattle.growth.specs.Slots.{rise}
 use Rattle.growth.proofs.Whole.{blob-room, blob-space, rise-room, rise-space}
