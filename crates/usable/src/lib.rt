@@ -39,7 +39,8 @@ pub fn lowest(records: &[u8], n: usize) -> Free
     Free::Nowhere
 }
 
-fn one_if(t: bool) -> usize
+// One if it holds, else none.
+pub fn one_if(t: bool) -> usize
     ensures { λ r. ⌜ (r ≡ pick t 1 0) × (r ≤ 1) ⌝ }
 {
     if t { 1 } else { 0 }
