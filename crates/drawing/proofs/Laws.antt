@@ -1,14 +1,14 @@
 -- Each way out of the drawing functions, with what the code has there: a row's bytes over zeros, one behind the other, are the payload of its cell.
 use mathlib.Core.Path.{_≡_, refl, ap, ap₂, _∙_, sym}
 use mathlib.Core.List.{List, [], _∷_, _++_, map}
-use Prim.Native.Nat.{ℕ, zero, suc, _+_, _-_, _*_, _^_, _≤_, _<_, min}
+use Prim.Native.Nat.{ℕ, zero, suc, _+_, _-_, _*_, _^_, _≤_, min}
 use native.Mathlib.Numerals.{add-one}
 use native.Mathlib.Omega.{arith}
 use lib.ListN.{length, getD, take, replicate, length-append, length-replicate, replicate-append-replicate, length-take}
 use Rattle.meaning.specs.declared.Edition.{Edition}
 use Rattle.meaning.specs.Lists.{part, joined, bytes, padded, pasted}
 use Rattle.meaning.specs.Edition.{Proper}
-use Rattle.meaning.specs.Bytes.{Cell, rowBytes, countOf, dataOf, childrenOf}
+use Rattle.meaning.specs.Bytes.{rowBytes, countOf, dataOf, childrenOf}
 use Rattle.meaning.specs.Shape.{up, leavesFor, most}
 use Rattle.meaning.specs.Resize.{share}
 use Rattle.meaning.specs.Walk.{used}
@@ -92,8 +92,9 @@ module _ (e : Edition) (p : Proper e) where
       let row : every free s c (k + 1) ≡ every free (bulk (e .fan) h) (places (e .fan) m (e .fan) h j) (suc k) =
       rw (step, many, add-one k) refl in
       drawn-inner h c (every free (bulk (e .fan) h) (places (e .fan) m (e .fan) h j) (suc k)) x (sym n ∙ ap length row) fits
-      (is ∙ ap (λ (l : List ℕ). pasted (4 * 0) (joined (map (bytes 4) (every free s c (k + 1)))) l) (clear ∙ ap (λ (i : ℕ). replicate {A = ℕ} i 0) long)
-      ∙ slots-first (e .leaf) 0 (every free s c (k + 1)) refl (omega (arith, p .fills)) ∙ ap (λ (l : List ℕ). padded (e .leaf) (joined (map (bytes 4) l))) row)
+      (is ∙ ap (pasted (4 * 0) (joined (map (bytes 4) (every free s c (k + 1))))) (clear ∙ ap (λ (i : ℕ). replicate {A = ℕ} i 0) long)
+      ∙ slots-first (e .leaf) 0 (every free s c (k + 1)) refl (omega (arith, p .fills))
+      ∙ ap (λ (l : List ℕ). padded (e .leaf) (joined (map (bytes 4) l))) row)
 
   -- the same, from one lower
   pub fresh-higher : (f : ℕ → ℕ) (m : ℕ) (free x : List ℕ) (h j k : ℕ) (d : Drawn) → (h ≡ 0 → ⊥)
@@ -113,7 +114,7 @@ module _ (e : Edition) (p : Proper e) where
       let row : every free s c (b + 1) ≡ every free (bulk (e .fan) h) (places (e .fan) m (e .fan - 1) h j) (suc b) =
       rw (step, many, add-one b) refl in
       let first : x₂ ≡ padded (e .leaf) (joined (map (bytes 4) (getD free b past ∷ []))) =
-      one ∙ ap (λ (l : List ℕ). pasted (4 * 0) (joined (map (bytes 4) (getD free b past ∷ []))) l) (clear ∙ ap (λ (i : ℕ). replicate {A = ℕ} i 0) long)
+      one ∙ ap (pasted (4 * 0) (joined (map (bytes 4) (getD free b past ∷ [])))) (clear ∙ ap (λ (i : ℕ). replicate {A = ℕ} i 0) long)
       ∙ slots-first (e .leaf) 0 (getD free b past ∷ []) refl (omega (arith, p .fills, p .two)) in
       drawn-inner h (c + 1) (getD free b past ∷ every free (bulk (e .fan) h) (places (e .fan) m (e .fan - 1) h j) (suc b)) x
       (add-one c ∙ ap suc (sym n ∙ ap length row)) (omega (arith, p .two))
@@ -128,7 +129,8 @@ module _ (e : Edition) (p : Proper e) where
   unfolding dataOf
   grown-leaf long first b x₀ x r count len whole kept many fits is drawn =
       let n : length (part 16 (countOf b) b) ≡ countOf b = part-length 16 (countOf b) b (omega (arith, p .fits)) in
-      drawn-leaf r (padded (share e long first) (part 16 (countOf b) b)) x (many ∙ sym (padded-length (share e long first) (part 16 (countOf b) b))) fits
+      drawn-leaf r (padded (share e long first) (part 16 (countOf b) b)) x
+      (many ∙ sym (padded-length (share e long first) (part 16 (countOf b) b))) fits
       (drawn ∙ ap₂ (λ (k : ℕ) (i : ℕ). padded k (part 16 i b)) len is
       ∙ sym (padded-twice (e .leaf) (share e long first) [] (part 16 (countOf b) b) (omega arith) (omega arith)))
 

@@ -1,4 +1,5 @@
--- A row's bytes over zeros: what is put behind a list that is padded with zeros makes that list longer, and a list that is padded twice is padded once.
+-- A row's bytes over zeros: what is put behind a list that is padded with zeros makes that list longer, and a list that is padded twice is
+-- padded once.
 use mathlib.Core.Path.{_≡_, refl, ap, ap₂, _∙_, sym}
 use mathlib.Core.List.{List, [], _∷_, _++_, map, append-assoc}
 use Prim.Native.Nat.{ℕ, zero, suc, _+_, _-_, _*_, _≤_}
@@ -9,7 +10,7 @@ use Rattle.meaning.specs.Lists.{joined, bytes, padded, pasted}
 use Rattle.meaning.specs.Bytes.{rowBytes}
 use Rattle.meaning.specs.Walk.{used}
 use Rattle.laws.proofs.Codec.{padded-length, padded-fits, row-length}
-use Rattle.laws.proofs.Parts.{pasted-length, drop-pasted}
+use Rattle.laws.proofs.Parts.{drop-pasted}
 use Rattle.laws.proofs.Building.{take-pasted-to}
 
 -- child slots have four bytes each

@@ -25,7 +25,8 @@ same-length c = search needs
 
 returns : tie.Need-returns
 returns c =
-    (search copied-front, record { small = λ i. omega (arith, c .before .before .before .before .before .before .before .before .shared-slice-known .given i) })
+    let byte = c .before .before .before .before .before .before .before .before .shared-slice-known .given in
+    (search copied-front, record { small = λ i. omega (arith, byte i) })
 
 pub copy-payload-spec : {M : Type 1} → statement M
 copy-payload-spec =
