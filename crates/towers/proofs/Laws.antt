@@ -12,12 +12,12 @@ use Rattle.meaning.specs.Tree.{leavesOf}
 use Rattle.meaning.specs.Shape.{total}
 use Rattle.laws.proofs.Codec.{rowOf}
 use Rattle.growth.specs.Slots.{rise}
-use Rattle.growth.specs.Forms.{bulk, inRow, seat, freshCell, above, newLeaves, newBytes, grownRow, topCell, grownNew}
+use Rattle.growth.specs.Forms.{bulk, inRow, seat, freshCell, above, newLeaves, newBytes, grownRow, topCell, grownRoot, grownNew}
 use Rattle.position.specs.declared.Seat.{Seat}
 use Rattle.position.specs.Seats.{Sits}
 use Rattle.rising.specs.Tops.{topAt}
 use Rattle.rising.proofs.Tops.{top-own, top-next}
-use Rattle.rising.proofs.Rises.{new-on-edge, new-top, new-beside}
+use Rattle.rising.proofs.Rises.{root-top, new-on-edge, new-top, new-beside}
 use Rattle.payload.specs.declared.Drawn.{Drawn}
 use Rattle.payload.specs.Draws.{Draws}
 use Rattle.drawing.specs.declared.Growth.{Growth}
@@ -34,15 +34,15 @@ new-leaves : (e : Edition) (g : Growth) (free : List ℕ) → Grows e g → newL
 unfolding newLeaves
 new-leaves e g free grows = sym (grows .more)
 
--- the root at a height
-abbrev rootAt : Edition → Growth → Tower → (free row : List ℕ) → ℕ → Cell
+-- what the root holds at a height
+abbrev pub rootAt : Edition → Growth → Tower → (free row : List ℕ) → ℕ → Cell
 rootAt e g t free row = topAt e (g .length) (g .leaves) (t .blocks) free (t .height) row
 
--- the new block p
+-- what the new block p holds
 abbrev newAt : Edition → Growth → Tower → (free row : List ℕ) → ℕ → Cell
 newAt e g t free row = grownNew e (g .length) (g .leaves) free (t .top - t .height) (t .height) row
 
--- a new block of a height and a first leaf
+-- what a new block of a height and a first leaf holds
 abbrev freshAt : Edition → Growth → (free : List ℕ) → (h j p : ℕ) → Cell
 freshAt e g free = freshCell (e .fan) (g .more) (newBytes e (g .length) (g .leaves) free) free
 
@@ -84,6 +84,13 @@ module _ (e : Edition) (g : Growth) (t : Tower) (free row : List ℕ) (proper : 
 
   blocks-is : t .blocks ≡ total (e .fan) (length (leavesOf (towers .blob)))
   blocks-is = towers .blocks ∙ ap (total (e .fan)) (towers .leaves)
+
+  -- in the end the root holds what it holds at the new height
+  pub root-ends : grownRoot e (g .length) (g .leaves) free (t .top - t .height) (t .height) row ≡ rootAt e g t free row (t .top)
+  unfolding rise
+  root-ends =
+      rw (blocks-is, towers .leaves, towers .top, towers .height)
+      (root-top e proper (towers .blob) (towers .shaped) (g .length) (towers .long) free row)
 
   -- on the right edge
   edge-is : (p : ℕ) (s : Seat) → p + t .blocks < bulk (e .fan) (t .height) → Sits s (seat (e .fan) (t .height) (g .leaves) p)
