@@ -3,7 +3,7 @@ use meaning::Edition;
 ghost use mathlib.Core.Path.{_≡_};
 ghost use Prim.Native.Nat.{_+_, _*_, _≤_};
 ghost use lib.ListN.{length};
-ghost use Rattle.meaning.specs.Lists.{part};
+ghost use Rattle.meaning.specs.Lists.{part, pasted, bytes};
 ghost use Rattle.meaning.specs.Edition.{Proper};
 ghost use Rattle.meaning.specs.Bytes.{block, recordAt};
 ghost use Rattle.meaning.specs.Change.{put};
@@ -60,6 +60,28 @@ pub fn store_block(e: Edition, pool: &mut [u8], slot: usize, new: &[u8])
     ensures { λ _. ⌜ now (pool .exit) ≡ put (e .size) slot (now (new .entry)) (now (pool .entry)) ⌝ }
 {
     put_in(pool, e.size, slot, new);
+}
+
+// Stores a stretch of a slot's payload, in place, and its version: from `within` on the payload becomes so many bytes of `src`.
+pub fn store_stretch(
+    e: Edition,
+    pool: &mut [u8],
+    slot: usize,
+    version: u64,
+    within: usize,
+    src: &[u8],
+    from: usize,
+    count: usize,
+)
+    requires { ⌜ e .size * slot + e .size ≤ length (now pool) ⌝ }
+    requires { ⌜ (16 + within + count ≤ e .size) × (from + count ≤ length (now src)) ⌝ }
+    ensures { λ _. ⌜ now (pool .exit) ≡ put (e .size) slot (pasted (16 + within) (part from count (now (src .entry))) (pasted 8 (bytes 8 version) (block e (now (pool .entry)) slot))) (now (pool .entry)) ⌝ }
+{
+    let start = e.size * slot;
+    number::put_u64(pool, start + 8, version);
+    let at = start + 16 + within;
+    let end = at + count;
+    number::fill(&mut pool[at..end], src, from);
 }
 
 // Stores a slot's record.

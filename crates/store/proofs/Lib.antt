@@ -1,3 +1,4 @@
 pub mod Opening
 pub mod Answers
 pub mod Changing
+pub mod Written

@@ -4,7 +4,7 @@ use meaning::Changed;
 use meaning::Created;
 use meaning::Finished;
 ghost use Rattle.meaning.specs.Edition.{one};
-ghost use Rattle.meaning.specs.Calls.{createCall, deleteCall};
+ghost use Rattle.meaning.specs.Calls.{createCall, deleteCall, writeCall};
 ghost use Rattle.meaning.specs.Answers.{createAnswer, changeAnswer, Ends, Wipes};
 
 // Pool all zeros, each record free at version 0.
@@ -55,6 +55,35 @@ pub fn delete(pool: &mut [u8], records: &mut [u8], root: u64) -> Changed
                 &mut scratch,
                 n,
                 root,
+            )
+        }
+    }
+}
+
+// Bytes are put inside a blob's present length, from an offset on.
+pub fn write(pool: &mut [u8], records: &mut [u8], root: u64, offset: u64, src: &[u8]) -> Changed
+    ensures { λ r. ⌜ Ends one changeAnswer (writeCall one (now (pool .entry)) (now (records .entry)) root offset (now (src .entry))) (now (pool .entry)) (now (records .entry)) r (now (pool .exit)) (now (records .exit)) ⌝ }
+{
+    let e = meaning::edition_one();
+    let mut seen = [0u8; 1024];
+    let mut row = [0u32; 1024];
+    let mut heights = [0u8; 1024];
+    let mut firsts = [0u32; 1024];
+    match gate::open(e, pool, records) {
+        Opened::Refused(r) => Changed::Refused(r),
+        Opened::Slots(n) => {
+            writing::write_in(
+                e,
+                pool,
+                records,
+                &mut seen[0..n],
+                &mut row[0..n],
+                &mut heights[0..n],
+                &mut firsts[0..n],
+                n,
+                root,
+                offset,
+                src,
             )
         }
     }

@@ -1,0 +1,5 @@
+pub mod Own
+pub mod Plans
+pub mod Facts
+pub mod Laws
+pub mod Numbers

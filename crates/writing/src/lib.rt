@@ -1,0 +1,195 @@
+// Write, behind refusals 1 and 2: bytes put inside a blob's present length.
+use meaning::Changed;
+use meaning::Edition;
+use walk::Walked;
+ghost use mathlib.Core.Path.{_≡_};
+ghost use Prim.Native.Nat.{_+_, _*_, _≤_, _<_};
+ghost use lib.ListN.{length};
+ghost use Rattle.meaning.specs.Edition.{Proper};
+ghost use Rattle.meaning.specs.Change.{puts, Change};
+ghost use Rattle.meaning.specs.Calls.{writeIn};
+ghost use Rattle.meaning.specs.Answers.{changeAnswer, Ends};
+ghost use Rattle.meaning.specs.Bytes.{state};
+ghost use Rattle.gate.specs.Gate.{Whole};
+ghost use Rattle.change.specs.Turns.{over};
+ghost use Rattle.stretch.specs.Plan.{planOf, writePlan, Place, Counted};
+ghost use Rattle.writing.specs.Number.{counted, changingFrom, Plannable};
+ghost use Rattle.writing.specs.Room.{Room, Unworn, Leaves, barredBy, writeNoted};
+
+// 1 if a slot changes, else 0.
+fn count_slot(
+    e: Edition,
+    pool: &[u8],
+    heights: &[u8],
+    firsts: &[u32],
+    src: &[u8],
+    offset: usize,
+    i: usize,
+) -> usize
+    requires { ⌜ Proper e ⌝ }
+    requires { ⌜ Place e (now pool) (now heights) (now firsts) i ⌝ }
+    requires { ⌜ Counted e (now pool) (now heights) i ⌝ }
+    ensures { λ r. ⌜ (r ≡ counted (planOf e (now (pool .entry)) (now (heights .entry)) (now (firsts .entry)) (now (src .entry)) offset i)) × (r ≤ 1) ⌝ }
+{
+    let t = stretch::plan_slot(e, pool, heights, firsts, src, offset, i);
+    if t.count == 0 {
+        return 0;
+    }
+    1
+}
+
+// How many slots a write changes. Nothing is written.
+pub fn count_changes(
+    e: Edition,
+    pool: &[u8],
+    heights: &[u8],
+    firsts: &[u32],
+    src: &[u8],
+    n: usize,
+    offset: usize,
+) -> usize
+    requires { ⌜ Proper e ⌝ }
+    requires { ⌜ Plannable e n (now pool) (now heights) (now firsts) ⌝ }
+    ensures { λ r. ⌜ r ≡ changingFrom e (now (pool .entry)) (now (heights .entry)) (now (firsts .entry)) (now (src .entry)) offset 0 n ⌝ }
+{
+    let mut m = 0;
+    let mut i = 0;
+    while i < n {
+        m += count_slot(e, pool, heights, firsts, src, offset, i);
+        i += 1;
+    }
+    m
+}
+
+// Every slot that changes is stored, rising.
+fn write_all(
+    e: Edition,
+    pool: &mut [u8],
+    records: &mut [u8],
+    heights: &[u8],
+    firsts: &[u32],
+    src: &[u8],
+    n: usize,
+    offset: usize,
+)
+    requires { ⌜ Proper e ⌝ }
+    requires { ⌜ e .size ≡ 16 + e .leaf ⌝ }
+    requires { ⌜ Whole e n (now pool) (now records) ⌝ }
+    requires { ⌜ Leaves e n (now pool) (now records) (now heights) (now firsts) ⌝ }
+    ensures { λ _. ⌜ now (pool .exit) ≡ puts (e .size) (λ c. c .block) (over (writePlan e (now (pool .entry)) (now (records .entry)) (now (heights .entry)) (now (firsts .entry)) (now (src .entry)) offset) 0 n) (now (pool .entry)) ⌝ }
+    ensures { λ _. ⌜ now (records .exit) ≡ puts 12 (λ c. c .line) (over (writePlan e (now (pool .entry)) (now (records .entry)) (now (heights .entry)) (now (firsts .entry)) (now (src .entry)) offset) 0 n) (now (records .entry)) ⌝ }
+{
+    let mut i = 0;
+    while i < n {
+        stretch::write_slot(e, pool, records, heights, firsts, src, offset, i);
+        i += 1;
+    }
+}
+
+// Refusals 12 and 10 of a write inside a blob of so many bytes: the number, 0 for none. No sum can wrap.
+fn barred(records: &[u8], heights: &[u8], n: usize, bytes: u64, offset: u64, size: usize) -> u64
+    requires { ⌜ (length (now records) ≡ 12 * n) × (length (now heights) ≡ n) ⌝ }
+    ensures { λ r. ⌜ r ≡ barredBy (now (records .entry)) (now (heights .entry)) n bytes offset size ⌝ }
+{
+    if worn::is_worn(records, heights, n) {
+        return 12;
+    }
+    if bytes < offset {
+        return 10;
+    }
+    if bytes - offset < size as u64 {
+        return 10;
+    }
+    0
+}
+
+// Refusals 12 and 10, then the bytes are put, in a blob of so many bytes whose blocks are noted in the rows.
+fn write_noted(
+    e: Edition,
+    pool: &mut [u8],
+    records: &mut [u8],
+    heights: &[u8],
+    firsts: &[u32],
+    src: &[u8],
+    n: usize,
+    bytes: u64,
+    offset: u64,
+) -> Changed
+    requires { ⌜ Proper e ⌝ }
+    requires { ⌜ e .size ≡ 16 + e .leaf ⌝ }
+    requires { ⌜ Whole e n (now pool) (now records) ⌝ }
+    requires { ⌜ Unworn e n (now pool) (now records) (now heights) (now firsts) ⌝ }
+    ensures { λ r. ⌜ Ends e changeAnswer (writeNoted e n (now (pool .entry)) (now (records .entry)) (now (heights .entry)) (now (firsts .entry)) bytes offset (now (src .entry))) (now (pool .entry)) (now (records .entry)) r (now (pool .exit)) (now (records .exit)) ⌝ }
+{
+    let number = barred(records, heights, n, bytes, offset, src.len());
+    if number != 0 {
+        return Changed::Refused(meaning::refuse_nowhere(number));
+    }
+    write_all(e, pool, records, heights, firsts, src, n, offset as usize);
+    Changed::Done
+}
+
+// The pool check, then what is behind it.
+fn write_rooted(
+    e: Edition,
+    pool: &mut [u8],
+    records: &mut [u8],
+    seen: &mut [u8],
+    row: &mut [u32],
+    heights: &mut [u8],
+    firsts: &mut [u32],
+    n: usize,
+    root: usize,
+    offset: u64,
+    src: &[u8],
+) -> Changed
+    requires { ⌜ Proper e ⌝ }
+    requires { ⌜ e .size ≡ 16 + e .leaf ⌝ }
+    requires { ⌜ Room e n (now pool) (now records) (now seen) (now row) (now heights) (now firsts) ⌝ }
+    requires { ⌜ (root < n) × (state (now records) root ≡ 2) ⌝ }
+    ensures { λ r. ⌜ Ends e changeAnswer (writeIn e n (now (pool .entry)) (now (records .entry)) root offset (now (src .entry))) (now (pool .entry)) (now (records .entry)) r (now (pool .exit)) (now (records .exit)) ⌝ }
+{
+    match sites::survey(e, pool, records, seen, row, heights, firsts, n, root) {
+        Walked::Fault(r) => Changed::Refused(r),
+        Walked::Fine(bytes, _) => {
+            write_noted(e, pool, records, heights, firsts, src, n, bytes, offset)
+        }
+    }
+}
+
+// Refusal 3, then what is behind it.
+pub fn write_in(
+    e: Edition,
+    pool: &mut [u8],
+    records: &mut [u8],
+    seen: &mut [u8],
+    row: &mut [u32],
+    heights: &mut [u8],
+    firsts: &mut [u32],
+    n: usize,
+    root: u64,
+    offset: u64,
+    src: &[u8],
+) -> Changed
+    requires { ⌜ Proper e ⌝ }
+    requires { ⌜ e .size ≡ 16 + e .leaf ⌝ }
+    requires { ⌜ Room e n (now pool) (now records) (now seen) (now row) (now heights) (now firsts) ⌝ }
+    ensures { λ r. ⌜ Ends e changeAnswer (writeIn e n (now (pool .entry)) (now (records .entry)) root offset (now (src .entry))) (now (pool .entry)) (now (records .entry)) r (now (pool .exit)) (now (records .exit)) ⌝ }
+{
+    if !gate::is_root(records, n, root) {
+        return Changed::Refused(meaning::refuse_nowhere(3));
+    }
+    write_rooted(
+        e,
+        pool,
+        records,
+        seen,
+        row,
+        heights,
+        firsts,
+        n,
+        root as usize,
+        offset,
+        src,
+    )
+}
