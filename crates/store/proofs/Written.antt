@@ -1,11 +1,10 @@
 -- The public write: refusals 1 and 2 with nothing changed, or what the call does behind them.
-use mathlib.Core.Path.{_≡_, refl, ap, _∙_, sym, subst}
+use mathlib.Core.Path.{_≡_, sym, subst}
 use mathlib.Core.List.{List}
 use Prim.Native.Nat.{ℕ, _+_, _-_}
 use lib.ListN.{length, take, drop, replicate}
 use Rattle.meaning.specs.Edition.{one}
-use Rattle.meaning.specs.Change.{Store}
-use Rattle.meaning.specs.Calls.{Outcome, refused, opened, slotsIn, writeIn, writeCall, after}
+use Rattle.meaning.specs.Calls.{Outcome, slotsIn, writeIn, writeCall, after}
 use Rattle.meaning.specs.Answers.{changeAnswer, Ends}
 use Rattle.meaning.specs.declared.Edition.{Edition}
 use Rattle.meaning.specs.declared.Refusal.{Refusal}

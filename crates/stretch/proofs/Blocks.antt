@@ -1,15 +1,15 @@
 -- A leaf's block, byte for byte: with a version put at 8 and bytes put inside its row, it is the written block of the row with those bytes put.
-use mathlib.Core.Path.{_≡_, refl, ap, ap₂, _∙_, sym}
+use mathlib.Core.Path.{_≡_, refl, ap, _∙_, sym}
 use mathlib.Core.Bool.{true}
 use mathlib.Core.List.{List, [], _∷_, _++_, append-assoc}
-use Prim.Native.Nat.{ℕ, zero, suc, _+_, _-_, _*_, _≤_, _<_}
+use Prim.Native.Nat.{ℕ, _+_, _-_, _≤_}
 use native.Mathlib.Omega.{arith}
-use lib.ListN.{length, getD, take, drop, replicate}
+use lib.ListN.{length, take, drop, replicate}
 use lib.Seq.{take-append-le, drop-append-le, take-append-add, drop-append-add}
 use Rattle.meaning.specs.declared.Edition.{Edition}
-use Rattle.meaning.specs.Lists.{part, pasted, bytes}
+use Rattle.meaning.specs.Lists.{pasted, bytes}
 use Rattle.meaning.specs.Edition.{Proper}
-use Rattle.meaning.specs.Bytes.{Cell, rowBytes, header, encoded, countOf, dataOf}
+use Rattle.meaning.specs.Bytes.{rowBytes, header, encoded, dataOf}
 use Rattle.laws.proofs.Parts.{pasted-length}
 use Rattle.laws.proofs.Codec.{encoded-bytes, header-length, passed-encoded, cellOf, rowOf}
 use Rattle.laws.proofs.Inversions.{Sound, sound-passed}

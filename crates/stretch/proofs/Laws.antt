@@ -1,27 +1,26 @@
 -- One slot of a write, need by need: comparing bytes in a loop, the plan of a slot, and that the stored stretch and version are the planned block.
 use mathlib.Core.Path.{_≡_, refl, ap, ap₂, _∙_, sym}
-use mathlib.Core.Bool.{Bool, true, false, not}
-use mathlib.Core.List.{List, [], _∷_, _++_}
-use Prim.Native.Nat.{ℕ, zero, suc, _+_, _-_, _*_, _^_, _≤_, _<_, min}
+use mathlib.Core.Bool.{Bool, true, false}
+use mathlib.Core.List.{List, _∷_}
+use Prim.Native.Nat.{ℕ, suc, _+_, _-_, _*_, _^_, _≤_, _<_, min}
 use native.Mathlib.Nat.{mul-le-mul}
 use native.Mathlib.Numerals.{add-one}
 use native.Mathlib.Omega.{arith}
 use mir.Syntax.{w64}
 use mir.Val.{Fits}
-use borrow.Author.Tests.{eq-eqb, ne-eqb, eqb-true, eqb-false}
+use borrow.Author.Tests.{eq-eqb, ne-eqb}
 use lib.Dec.{eqb}
-use lib.ListN.{length, getD, take, drop}
+use lib.ListN.{length, getD}
 use lib.Seq.{drop-cons}
 use Rattle.meaning.specs.declared.Edition.{Edition}
 use Rattle.meaning.specs.Lists.{pick, both, part, pasted, sameList, bytes}
 use Rattle.meaning.specs.Edition.{Proper}
 use Rattle.meaning.specs.Bytes.{block, countOf, dataOf, encoded, recordAt, recordOf, recordWith, stateOf, recordedOf, state, recorded, lastVersion}
 use Rattle.meaning.specs.Shape.{most}
-use Rattle.meaning.specs.Change.{Change, put, puts, renewed}
+use Rattle.meaning.specs.Change.{put, puts, renewed}
 use Rattle.laws.proofs.Numbers.{part-length}
-use Rattle.laws.proofs.Inversions.{by-test, Sound}
 use Rattle.stretch.specs.declared.Stretch.{Stretch}
-use Rattle.stretch.specs.Plan.{nothing, touchedBy, differing, planOf, stretched, leafCell, putBy, writePlan, Bytes, Changing, Compared, Chosen, ChosenAt, Place, Leaf, Counted, Writable}
+use Rattle.stretch.specs.Plan.{nothing, touchedBy, differing, planOf, stretched, leafCell, putBy, writePlan, Compared, Chosen, ChosenAt, Place, Counted, Writable}
 use Rattle.stretch.proofs.Stretches.{fits-both}
 use Rattle.stretch.proofs.Blocks.{leaf-rewritten, leaf-encoded}
 

@@ -1,17 +1,16 @@
 -- The touched stretch of a leaf: of content with d put at the offset, the part that a leaf holds is what it held with its stretch of d put. So its
 -- bytes stay the same exactly if those of the stretch do.
-use mathlib.Core.Path.{_≡_, refl, ap, ap₂, _∙_, sym}
-use mathlib.Core.Bool.{Bool, true, false}
+use mathlib.Core.Path.{_≡_, refl, ap, _∙_, sym}
 use mathlib.Core.List.{List, [], _∷_, _++_}
-use Prim.Native.Nat.{ℕ, zero, suc, _+_, _-_, _*_, _≤_, _<_, min}
+use Prim.Native.Nat.{ℕ, _+_, _-_, _≤_, _<_, min}
 use native.Mathlib.Omega.{arith}
 use borrow.Author.Tests.{eq-eqb, eqb-true, eqb-false, ltb-true, ltb-false, leb-true, leb-false}
 use lib.Dec.{eqb, ltb, leb}
 use lib.ListN.{length, getD, take, drop, length-take, length-drop, take-append-drop}
 use lib.Seq.{ext-getD, getD-take, getD-drop, drop-drop}
-use Rattle.meaning.specs.Lists.{pick, both, part, pasted, sameList}
+use Rattle.meaning.specs.Lists.{both, part, pasted, sameList}
 use Rattle.laws.proofs.Numbers.{part-length}
-use Rattle.laws.proofs.Parts.{pasted-length, take-pasted, drop-pasted, part-pasted, part-pasted-before, part-pasted-after}
+use Rattle.laws.proofs.Parts.{pasted-length, take-pasted, drop-pasted, part-pasted}
 use Rattle.laws.proofs.Inversions.{by-test, same-self}
 use Rattle.stretch.specs.declared.Stretch.{Stretch}
 use Rattle.stretch.specs.Plan.{touchedBy, stretched}

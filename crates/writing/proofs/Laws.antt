@@ -1,5 +1,5 @@
 -- Write, need by need: the loop's turns, refusals 12 and 10, and the ends of the call.
-use mathlib.Core.Path.{_≡_, refl, ap, _∙_, sym}
+use mathlib.Core.Path.{_≡_, ap, _∙_, sym}
 use mathlib.Core.Bool.{Bool, true, false, not}
 use mathlib.Core.List.{List, [], _∷_}
 use mathlib.Core.Logic.{_⊎_, inl, inr}
@@ -7,19 +7,18 @@ use Prim.Native.Nat.{ℕ, _+_, _-_, _*_, _≤_, _<_}
 use native.Mathlib.Omega.{arith}
 use borrow.Author.Tests.{eq-eqb, ne-eqb, eqb-true, lt-ltb, le-ltb, ltb-true, ltb-false, not-false}
 use lib.Dec.{eqb, ltb}
-use lib.ListN.{length, getD}
+use lib.ListN.{length}
 use Rattle.meaning.specs.declared.Edition.{Edition}
 use Rattle.meaning.specs.declared.Refusal.{Refusal}
 use Rattle.meaning.specs.declared.Changed.{Changed}
 use Rattle.meaning.specs.declared.Changed.the-variants as changed
-use Rattle.meaning.specs.Lists.{pick, both, pasted}
+use Rattle.meaning.specs.Lists.{pick, both}
 use Rattle.meaning.specs.Edition.{Proper}
-use Rattle.meaning.specs.Bytes.{block, countOf, dataOf, recorded, recordAt, recordOf, state, stateOf, recordedOf, encoded, lastVersion}
-use Rattle.meaning.specs.Tree.{Blob, lengthOf, contentOf, cellsOf}
-use Rattle.meaning.specs.Resize.{refilled}
+use Rattle.meaning.specs.Bytes.{block, dataOf, recorded, recordAt, recordOf, state, encoded}
+use Rattle.meaning.specs.Tree.{lengthOf}
 use Rattle.meaning.specs.Refusals.{nowhere}
-use Rattle.meaning.specs.Change.{Change, Store, puts, renewed, changedBy}
-use Rattle.meaning.specs.Calls.{Outcome, refused, done, refuseIf, refuseWorn, refusePast, rooted, changing, become, writeOn, writeIn, after}
+use Rattle.meaning.specs.Change.{Change, puts, renewed, changedBy}
+use Rattle.meaning.specs.Calls.{done, refuseIf, refusePast, rooted, changing, writeOn, writeIn, after}
 use Rattle.meaning.specs.Answers.{changeAnswer, Ends}
 use Rattle.laws.proofs.Codec.{encoded-length, record-length}
 use Rattle.laws.proofs.Inversions.{by-test, both-true}
@@ -36,9 +35,10 @@ use Rattle.worn.specs.Worn.{wornAmong}
 use Rattle.worn.proofs.Laws.{worn-refused, worn-passed}
 use Rattle.change.specs.Turns.{over, Turning}
 use Rattle.change.proofs.Laws.{block-left, record-left, turning-on}
-use Rattle.stretch.specs.Plan.{differing, planOf, stretched, leafCell, putBy, writePlan, Place, Leaf, Writable}
-use Rattle.writing.specs.Room.{Room, Unworn, Leaves, barredBy, writeNoted}
-use Rattle.writing.proofs.Facts.{leaves-known, all-same}
+use Rattle.stretch.specs.Plan.{planOf, stretched, leafCell, putBy, writePlan, Place, Writable}
+use Rattle.rewriting.specs.Unworn.{Unworn}
+use Rattle.writing.specs.Room.{Room, Leaves, barredBy, writeNoted}
+use Rattle.rewriting.proofs.Facts.{leaves-known, all-same}
 
 -- the loop: what a slot becomes is planned from pool and records as they were
 module _ (e : Edition) (n : ℕ) (hs fs d : List ℕ) (offset : ℕ) (P₀ R₀ : List ℕ) (i : ℕ) (P R : List ℕ)

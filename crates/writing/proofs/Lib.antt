@@ -1,5 +1,2 @@
-pub mod Own
-pub mod Plans
-pub mod Facts
 pub mod Laws
 pub mod Numbers

@@ -1,7 +1,6 @@
 -- How many slots a write changes: as many as the definition's changes.
 use mathlib.Core.Path.{_≡_, refl, ap, _∙_, sym}
-use mathlib.Core.Bool.{true, false}
-use mathlib.Core.List.{List, [], _∷_, _++_}
+use mathlib.Core.List.{List}
 use Prim.Native.Nat.{ℕ, zero, suc, _+_, _-_, _*_, _≤_, _<_}
 use native.Mathlib.Numerals.{add-one}
 use native.Mathlib.Omega.{arith}
@@ -13,7 +12,7 @@ use Rattle.meaning.specs.Lists.{pick, joined, range, pasted}
 use Rattle.meaning.specs.Edition.{Proper}
 use Rattle.meaning.specs.Tree.{contentOf, cellsOf, lengthOf}
 use Rattle.meaning.specs.Resize.{refilled}
-use Rattle.meaning.specs.Change.{Change, renewed}
+use Rattle.meaning.specs.Change.{Change}
 use Rattle.meaning.specs.Calls.{become}
 use Rattle.laws.proofs.Inversions.{by-test}
 use Rattle.visit.proofs.Laws.{slot-fits}
@@ -23,7 +22,7 @@ use Rattle.change.specs.Turns.{over}
 use Rattle.stretch.specs.declared.Stretch.{Stretch}
 use Rattle.stretch.specs.Plan.{planOf, putBy, writePlan, Place, Counted}
 use Rattle.writing.specs.Number.{counted, changingFrom, Plannable}
-use Rattle.writing.proofs.Facts.{all-same, counted-known}
+use Rattle.rewriting.proofs.Facts.{all-same, counted-known}
 
 -- a stretch counts one or none
 pub counts-none : (t t′ : Stretch) → t ≡ t′ → t .count ≡ 0 → 0 ≡ counted t′

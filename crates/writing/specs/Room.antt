@@ -2,7 +2,6 @@
 use mathlib.Core.Path.{_≡_}
 use mathlib.Core.List.{List}
 use Prim.Native.Nat.{ℕ, _+_, _<_}
-use mathlib.Core.Bool.{false}
 use lib.Dec.{eqb, ltb}
 use lib.ListN.{length, replicate}
 use Rattle.gate.specs.Gate.{Whole}
@@ -21,12 +20,6 @@ pub record Room (e : Edition) (n : ℕ) (P R seen row heights firsts : List ℕ)
   pub rows : length row ≡ n
   pub flat : heights ≡ replicate n 0
   pub begins : length firsts ≡ n
-
--- each leaf of the blob may be written, if the blob is not worn
-pub record Unworn (e : Edition) (n : ℕ) (P R hs fs : List ℕ) : Type 0 where
-  pub heights : length hs ≡ n
-  pub firsts : length fs ≡ n
-  pub each : wornAmong R hs n ≡ false → (s : ℕ) → s < n → Writable e P R hs s
 
 -- each leaf of the blob may be written
 pub record Leaves (e : Edition) (n : ℕ) (P R hs fs : List ℕ) : Type 0 where

@@ -14,7 +14,8 @@ ghost use Rattle.gate.specs.Gate.{Whole};
 ghost use Rattle.change.specs.Turns.{over};
 ghost use Rattle.stretch.specs.Plan.{planOf, writePlan, Place, Counted};
 ghost use Rattle.writing.specs.Number.{counted, changingFrom, Plannable};
-ghost use Rattle.writing.specs.Room.{Room, Unworn, Leaves, barredBy, writeNoted};
+ghost use Rattle.rewriting.specs.Unworn.{Unworn};
+ghost use Rattle.writing.specs.Room.{Room, Leaves, barredBy, writeNoted};
 
 // 1 if a slot changes, else 0.
 fn count_slot(

@@ -1,8 +1,8 @@
 -- The plan of a leaf is the version rule of the definition: it changes exactly if its cell, with its stretch put, differs.
-use mathlib.Core.Path.{_≡_, refl, ap, ap₂, _∙_, sym}
-use mathlib.Core.Bool.{Bool, true, false}
+use mathlib.Core.Path.{_≡_, refl, ap, _∙_}
+use mathlib.Core.Bool.{true, false}
 use mathlib.Core.List.{List, [], _∷_}
-use Prim.Native.Nat.{ℕ, _+_, _-_, _*_, _≤_}
+use Prim.Native.Nat.{ℕ, _+_, _*_, _≤_}
 use native.Mathlib.Omega.{arith}
 use borrow.Author.Tests.{eq-eqb, ne-eqb, eqb-true, eqb-false}
 use lib.Dec.{eqb}
@@ -10,13 +10,12 @@ use lib.ListN.{length, getD}
 use Rattle.meaning.specs.declared.Edition.{Edition}
 use Rattle.meaning.specs.Lists.{pick, both, part, pasted, sameList}
 use Rattle.meaning.specs.Bytes.{sameCell, block, countOf, dataOf, state}
-use Rattle.meaning.specs.Change.{Change, renewed}
+use Rattle.meaning.specs.Change.{renewed}
 use Rattle.laws.proofs.Numbers.{part-length, part-part}
 use Rattle.laws.proofs.Inversions.{by-test, same-self}
 use Rattle.stretch.specs.declared.Stretch.{Stretch}
-use Rattle.stretch.specs.Plan.{nothing, touchedBy, differing, planOf, stretched, leafCell, putBy, writePlan}
+use Rattle.stretch.specs.Plan.{touchedBy, differing, planOf, stretched, leafCell, putBy, writePlan}
 use Rattle.stretch.proofs.Stretches.{fits-both, pasted-none, same-pasted}
-use Rattle.stretch.proofs.Laws.{data-long}
 
 -- two leaves are the same if their bytes are
 same-leaf : (a b : List ℕ) → sameCell (leafCell a) (leafCell b) ≡ sameList a b

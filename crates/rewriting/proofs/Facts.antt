@@ -1,21 +1,21 @@
 -- What is known of the blob says all that write needs: its leaves' blocks pass checks 2 and 3, and the plan of each slot is the definition's change.
-use mathlib.Core.Path.{_≡_, refl, ap, ap₂, _∙_, sym, subst}
+use mathlib.Core.Path.{_≡_, refl, ap, _∙_, sym, subst}
 use mathlib.Core.Logic.{_⊎_, inl, inr}
-use mathlib.Core.Bool.{Bool, true, false}
+use mathlib.Core.Bool.{true}
 use mathlib.Core.List.{List, [], _∷_, List·Memᴰ, List·Memᴰ·not-nil, List·Memᴰ·cases-cons}
-use Prim.Native.Nat.{ℕ, zero, suc, _+_, _-_, _*_, _≤_, _<_}
+use Prim.Native.Nat.{ℕ, suc, _+_, _-_, _*_, _≤_, _<_}
 use native.Mathlib.Omega.{arith}
 use borrow.Author.Tests.{eqb-true, eqb-false}
 use lib.Dec.{eqb}
 use lib.ListN.{length, getD}
 use Rattle.meaning.specs.declared.Edition.{Edition}
-use Rattle.meaning.specs.Lists.{pick, part, pasted, range}
+use Rattle.meaning.specs.Lists.{pick, part, pasted}
 use Rattle.meaning.specs.Edition.{Proper}
-use Rattle.meaning.specs.Bytes.{Cell, block, countOf, dataOf, state, recorded, lastVersion}
+use Rattle.meaning.specs.Bytes.{Cell, block, countOf, dataOf, recorded}
 use Rattle.meaning.specs.Shape.{least, most}
-use Rattle.meaning.specs.Tree.{Blob, contentOf, cellsOf, lengthOf, nothing, just, held}
+use Rattle.meaning.specs.Tree.{Blob, contentOf, cellsOf, lengthOf, just, held}
 use Rattle.meaning.specs.Resize.{refilled}
-use Rattle.meaning.specs.Change.{Change, renewed, changed, changes}
+use Rattle.meaning.specs.Change.{changed}
 use Rattle.meaning.specs.Calls.{become}
 use Rattle.laws.proofs.Numbers.{part-length}
 use Rattle.laws.proofs.Codec.{rowOf}
@@ -27,19 +27,18 @@ use Rattle.growth.proofs.Resized.{write-changes}
 use Rattle.growth.proofs.Changes.{held-at, rewrite-old, rewrite-inner, rewrite-other}
 use Rattle.sound.proofs.Cells.{Every, Reads, reads-sound}
 use Rattle.sound.proofs.Blobs.{Lies}
-use Rattle.sound.proofs.Pools.{Pool, pool-found}
+use Rattle.sound.proofs.Pools.{pool-found}
 use Rattle.visit.proofs.Laws.{slot-fits}
 use Rattle.sites.specs.Spelt.{blobAt, siteAt}
 use Rattle.sites.specs.Known.{Known}
-use Rattle.worn.specs.Worn.{wornAmong}
 use Rattle.worn.proofs.Laws.{unworn-slot}
 use Rattle.change.specs.Turns.{over}
 use Rattle.change.proofs.Laws.{changes-over, over-same}
-use Rattle.stretch.specs.Plan.{touchedBy, stretched, leafCell, writePlan, Counted, Writable}
+use Rattle.stretch.specs.Plan.{touchedBy, stretched, leafCell, writePlan, Counted}
 use Rattle.stretch.proofs.Stretches.{touched-part}
-use Rattle.writing.specs.Room.{Unworn}
-use Rattle.writing.proofs.Own.{leaf-part, leaf-reach}
-use Rattle.writing.proofs.Plans.{planned-leaf, planned-other}
+use Rattle.rewriting.specs.Unworn.{Unworn}
+use Rattle.rewriting.proofs.Own.{leaf-part, leaf-reach}
+use Rattle.rewriting.proofs.Plans.{planned-leaf, planned-other}
 
 -- a claim of each, of one that is there
 every-there : {A : Type 0} (Q : A → Type 0) (l : List A) → Every Q l → (x : A) → List·Memᴰ x l → Q x

@@ -1,15 +1,15 @@
 -- A blob written with its own content stays as it is. So each leaf holds the part of the content at its place.
-use mathlib.Core.Path.{_≡_, refl, ap, ap₂, _∙_, sym}
+use mathlib.Core.Path.{_≡_, refl, ap, _∙_, sym}
 use mathlib.Core.List.{List, [], _∷_, _++_, map, append-assoc, append-nil}
-use Prim.Native.Nat.{ℕ, zero, suc, _+_, _-_, _*_, _≤_, min}
+use Prim.Native.Nat.{ℕ, zero, suc, _-_, _*_, _≤_, min}
 use native.Mathlib.Omega.{arith}
-use lib.ListN.{length, take, drop, length-take, length-drop}
+use lib.ListN.{length, length-take, length-drop}
 use lib.Seq.{take-append-seam, drop-append-seam}
 use Rattle.meaning.specs.declared.Edition.{Edition}
 use Rattle.meaning.specs.Lists.{part, joined}
 use Rattle.meaning.specs.Edition.{Proper}
 use Rattle.meaning.specs.Bytes.{Cell}
-use Rattle.meaning.specs.Tree.{Tree, Blob, content, contentOf, cellsOf, Held, just, held}
+use Rattle.meaning.specs.Tree.{Tree, Blob, content, contentOf, cellsOf, just, held}
 use Rattle.meaning.specs.Resize.{along, refill, refilled}
 use Rattle.growth.specs.Sites.{Site, sitesOf, at, sited, heldBy}
 use Rattle.growth.specs.Cuts.{written, rewritten}

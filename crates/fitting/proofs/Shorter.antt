@@ -1,0 +1,66 @@
+-- A blob that gets shorter: what the code below asks for, and that what it does is the definition's changes.
+use mathlib.Core.Path.{_≡_, refl, ap, _∙_, sym}
+use mathlib.Core.List.{List}
+use Prim.Native.Nat.{ℕ, _+_, _-_, _*_, _^_, _≤_, _<_}
+use native.Mathlib.Omega.{arith}
+use lib.ListN.{length}
+use mir.Syntax.{w64}
+use mir.Val.{Fits}
+use Rattle.meaning.specs.declared.Edition.{Edition}
+use Rattle.meaning.specs.Edition.{Proper}
+use Rattle.meaning.specs.Bytes.{block, heightOf}
+use Rattle.meaning.specs.Shape.{leavesFor, heightFor, total}
+use Rattle.meaning.specs.Tree.{cellsOf}
+use Rattle.meaning.specs.Change.{Change, puts}
+use Rattle.meaning.specs.Resize.{resized}
+use Rattle.meaning.specs.Calls.{usable, become}
+use Rattle.growth.specs.Cuts.{heightOfLength}
+use Rattle.visit.proofs.Laws.{slot-fits}
+use Rattle.sites.specs.Spelt.{blobAt}
+use Rattle.cutting.specs.declared.Cut.{Cut}
+use Rattle.shortening.specs.Starts.{CutStart}
+use Rattle.fitting.specs.Found.{resizedTo, Roomy}
+use Rattle.fitting.proofs.Laws.{leaves-few}
+
+module _ (e : Edition) (n : ℕ) (P R : List ℕ) (r bytes leaves : ℕ) (hs fs free : List ℕ) (len want : ℕ)
+    (g : Roomy e n P R r bytes leaves hs fs free len want) where
+  -- the root lies in the pool
+  pub root-place : e .size * r + e .size ≤ length P
+  root-place = slot-fits (e .size) n r P (g .whole .pool) (g .found .known .within)
+
+  -- a length below the blob's has few leaves
+  pub short-few : Proper e → len < bytes → Fits w64 bytes → want ≤ 2 ^ 62
+  short-few p short small = omega (arith, g .wanted, leaves-few e p len (omega (arith, small .fits)))
+
+  -- the blob can be cut
+  pub short-start : (top : ℕ) → top ≡ heightFor (e .fan) want → len < bytes
+      → CutStart e (record { length = len; leaves = want; top = top }) n P R r hs fs
+  unfolding heightOfLength
+  short-start top et short = record {
+    len = bytes;
+    k = leaves;
+    row = g .found .row;
+    whole = g .whole;
+    known = g .found .known;
+    leaves = g .wanted;
+    top = et ∙ ap (heightFor (e .fan)) (g .wanted);
+    short = short;
+    fresh = g .fresh;
+  }
+
+-- a height that was read
+pub height-read : (e : Edition) (P : List ℕ) (r : ℕ) (b : List ℕ) → b ≡ block e P r → (h : ℕ) → h ≡ heightOf b → h ≡ heightOf (block e P r)
+height-read e P r b eb h eh = eh ∙ ap heightOf eb
+
+-- what was stored is the definition's changes
+pub short-pool : (e : Edition) (n : ℕ) (P R : List ℕ) (r len : ℕ) (P′ : List ℕ)
+    → P′ ≡ puts (e .size) (λ c. c .block) (become e n P R 1 (cellsOf (blobAt e P r)) (cellsOf (resized e len (usable e n P R) (blobAt e P r)))) P
+    → P′ ≡ puts (e .size) (λ c. c .block) (resizedTo e n P R r len) P
+unfolding resizedTo
+short-pool e n P R r len P′ q = q
+
+pub short-records : (e : Edition) (n : ℕ) (P R : List ℕ) (r len : ℕ) (R′ : List ℕ)
+    → R′ ≡ puts 12 (λ c. c .line) (become e n P R 1 (cellsOf (blobAt e P r)) (cellsOf (resized e len (usable e n P R) (blobAt e P r)))) R
+    → R′ ≡ puts 12 (λ c. c .line) (resizedTo e n P R r len) R
+unfolding resizedTo
+short-records e n P R r len R′ q = q

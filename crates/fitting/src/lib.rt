@@ -1,0 +1,215 @@
+// A blob resized, past every refusal: the numbers that are worked out beforehand, then every slot of the blob and every slot that is taken, rising.
+use cutting::Cut;
+use drawing::Growth;
+use meaning::Edition;
+use towers::Tower;
+ghost use mathlib.Core.Path.{_≡_};
+ghost use Prim.Native.Nat.{_+_, _-_, _*_, _^_, _≤_, _<_};
+ghost use lib.Dec.{ltb};
+ghost use lib.ListN.{length};
+ghost use Rattle.meaning.specs.Edition.{Proper};
+ghost use Rattle.meaning.specs.Bytes.{block, heightOf};
+ghost use Rattle.meaning.specs.Shape.{leavesFor, total};
+ghost use Rattle.meaning.specs.Change.{puts};
+ghost use Rattle.fitting.specs.Measures.{Measures};
+ghost use Rattle.fitting.specs.Found.{resizedTo, Drafts, Roomy};
+
+// Refusal 11: whether more new blocks are needed than slots are free.
+pub fn lacks_room(e: Edition, leaves: usize, long: u64, free: usize) -> bool
+    requires { ⌜ Proper e ⌝ }
+    requires { ⌜ (leaves ≤ 2 ^ 32) × (free ≤ 2 ^ 32) ⌝ }
+    ensures { λ r. ⌜ r ≡ ltb free (total (e .fan) (leavesFor (e .leaf) long) - total (e .fan) leaves) ⌝ }
+{
+    let fan = e.fan as u64;
+    let have = shape::block_total(fan, leaves as u64);
+    let need = shape::block_total(fan, shape::leaf_count(e.leaf as u64, long));
+    have + (free as u64) < need
+}
+
+// The numbers of a blob of that height and so many leaves that is to have so many.
+fn tower_of(e: Edition, height: usize, leaves: usize, want: usize) -> Tower
+    requires { ⌜ Proper e ⌝ }
+    requires { ⌜ (leaves ≤ want) × (want ≤ 2 ^ 40) ⌝ }
+    ensures { λ r. ⌜ Measures e height leaves want r ⌝ }
+{
+    let fan = e.fan as u64;
+    let blocks = shape::block_total(fan, leaves as u64);
+    let taken = shape::block_total(fan, want as u64) - blocks;
+    let top = shape::height_for(fan, want as u64);
+    Tower {
+        height: height,
+        top: top as usize,
+        blocks: blocks as usize,
+        taken: taken as usize,
+    }
+}
+
+// The blob gets shorter.
+fn shorten(
+    e: Edition,
+    pool: &mut [u8],
+    records: &mut [u8],
+    free: &[u32],
+    heights: &[u8],
+    firsts: &[u32],
+    kept: &mut [u8],
+    payload: &mut [u8],
+    scratch: &mut [u8],
+    n: usize,
+    root: usize,
+    bytes: usize,
+    leaves: usize,
+    short: usize,
+    want: usize,
+)
+    requires { ⌜ Proper e ⌝ }
+    requires { ⌜ Roomy e n (now pool) (now records) root bytes leaves (now heights) (now firsts) (now free) short want ⌝ }
+    requires { ⌜ Drafts e (now kept) (now payload) (now scratch) ⌝ }
+    requires { ⌜ short < bytes ⌝ }
+    ensures { λ _. ⌜ now (pool .exit) ≡ puts (e .size) (λ c. c .block) (resizedTo e n (now (pool .entry)) (now (records .entry)) root short) (now (pool .entry)) ⌝ }
+    ensures { λ _. ⌜ now (records .exit) ≡ puts 12 (λ c. c .line) (resizedTo e n (now (pool .entry)) (now (records .entry)) root short) (now (records .entry)) ⌝ }
+{
+    let top = shape::height_for(e.fan as u64, want as u64) as usize;
+    let h = block::check::height_of(slot::block_of(e, pool, root));
+    let c = Cut {
+        length: short,
+        leaves: want,
+        top: top,
+    };
+    shortening::cut_blob(
+        e,
+        c,
+        pool,
+        records,
+        heights,
+        firsts,
+        kept,
+        payload,
+        scratch,
+        n,
+        root,
+        h,
+    );
+}
+
+// Those of the blob with that root.
+fn tower_at(e: Edition, pool: &[u8], root: usize, leaves: usize, want: usize) -> Tower
+    requires { ⌜ Proper e ⌝ }
+    requires { ⌜ e .size * root + e .size ≤ length (now pool) ⌝ }
+    requires { ⌜ (leaves ≤ want) × (want ≤ 2 ^ 40) ⌝ }
+    ensures { λ r. ⌜ Measures e (heightOf (block e (now (pool .entry)) root)) leaves want r ⌝ }
+{
+    let h = block::check::height_of(slot::block_of(e, pool, root));
+    tower_of(e, h, leaves, want)
+}
+
+// The blob gets longer, or stays as long as it is.
+fn lengthen(
+    e: Edition,
+    pool: &mut [u8],
+    records: &mut [u8],
+    free: &[u32],
+    heights: &[u8],
+    firsts: &[u32],
+    kept: &mut [u8],
+    payload: &mut [u8],
+    scratch: &mut [u8],
+    n: usize,
+    root: usize,
+    bytes: usize,
+    leaves: usize,
+    long: usize,
+    want: usize,
+)
+    requires { ⌜ Proper e ⌝ }
+    requires { ⌜ Roomy e n (now pool) (now records) root bytes leaves (now heights) (now firsts) (now free) long want ⌝ }
+    requires { ⌜ Drafts e (now kept) (now payload) (now scratch) ⌝ }
+    requires { ⌜ bytes ≤ long ⌝ }
+    ensures { λ _. ⌜ now (pool .exit) ≡ puts (e .size) (λ c. c .block) (resizedTo e n (now (pool .entry)) (now (records .entry)) root long) (now (pool .entry)) ⌝ }
+    ensures { λ _. ⌜ now (records .exit) ≡ puts 12 (λ c. c .line) (resizedTo e n (now (pool .entry)) (now (records .entry)) root long) (now (records .entry)) ⌝ }
+{
+    let t = tower_at(e, pool, root, leaves, want);
+    let g = Growth {
+        length: long,
+        leaves: leaves,
+        more: want - leaves,
+    };
+    lengthening::grow(
+        e,
+        g,
+        t,
+        pool,
+        records,
+        free,
+        heights,
+        firsts,
+        kept,
+        payload,
+        scratch,
+        n,
+        root,
+    );
+}
+
+// The blob gets that length.
+pub fn resize_blob(
+    e: Edition,
+    pool: &mut [u8],
+    records: &mut [u8],
+    free: &[u32],
+    heights: &[u8],
+    firsts: &[u32],
+    kept: &mut [u8],
+    payload: &mut [u8],
+    scratch: &mut [u8],
+    n: usize,
+    root: usize,
+    bytes: usize,
+    leaves: usize,
+    len: usize,
+    want: usize,
+)
+    requires { ⌜ Proper e ⌝ }
+    requires { ⌜ Roomy e n (now pool) (now records) root bytes leaves (now heights) (now firsts) (now free) len want ⌝ }
+    requires { ⌜ Drafts e (now kept) (now payload) (now scratch) ⌝ }
+    ensures { λ _. ⌜ now (pool .exit) ≡ puts (e .size) (λ c. c .block) (resizedTo e n (now (pool .entry)) (now (records .entry)) root len) (now (pool .entry)) ⌝ }
+    ensures { λ _. ⌜ now (records .exit) ≡ puts 12 (λ c. c .line) (resizedTo e n (now (pool .entry)) (now (records .entry)) root len) (now (records .entry)) ⌝ }
+{
+    if len < bytes {
+        shorten(
+            e,
+            pool,
+            records,
+            free,
+            heights,
+            firsts,
+            kept,
+            payload,
+            scratch,
+            n,
+            root,
+            bytes,
+            leaves,
+            len,
+            want,
+        );
+    } else {
+        lengthen(
+            e,
+            pool,
+            records,
+            free,
+            heights,
+            firsts,
+            kept,
+            payload,
+            scratch,
+            n,
+            root,
+            bytes,
+            leaves,
+            len,
+            want,
+        );
+    }
+}

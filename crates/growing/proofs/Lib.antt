@@ -1,0 +1,4 @@
+pub mod Low
+pub mod Ready
+pub mod Same
+pub mod Plan

@@ -1,0 +1,3 @@
+pub mod Own
+pub mod Plans
+pub mod Facts

@@ -1,0 +1,106 @@
+-- The left edge, found by first children: the loop's turns, and that in a blob that is known each step comes to the next block of the edge.
+use mathlib.Core.Path.{_≡_, refl, ap, _∙_, sym}
+use mathlib.Core.List.{List, [], _∷_}
+use Prim.Native.Nat.{ℕ, zero, suc, _+_, _-_, _*_, _≤_, _<_}
+use native.Mathlib.Numerals.{add-one}
+use native.Mathlib.Omega.{arith}
+use lib.ListN.{length, getD}
+use lib.Seq.{take-all}
+use Rattle.meaning.specs.declared.Edition.{Edition}
+use Rattle.meaning.specs.Lists.{part, number}
+use Rattle.meaning.specs.Edition.{Proper}
+use Rattle.meaning.specs.Bytes.{block, countOf, childrenOf}
+use Rattle.meaning.specs.Tree.{Blob}
+use Rattle.laws.proofs.Codec.{rowOf}
+use Rattle.visit.proofs.Laws.{slot-fits}
+use Rattle.gate.specs.Gate.{Whole}
+use Rattle.growth.specs.Cuts.{leftmost}
+use Rattle.growth.specs.Forms.{past}
+use Rattle.growth.proofs.Places.{left-site, left-root, left-step}
+use Rattle.sites.specs.Spelt.{blobAt}
+use Rattle.sites.specs.Known.{Known}
+use Rattle.sites.proofs.Laws.{fours-first}
+use Rattle.shortening.specs.Starts.{firstBelow}
+
+-- the loop
+module _ (e : Edition) (P : List ℕ) (s : ℕ) where
+  pub below-start : s ≡ firstBelow e P s 0
+  unfolding firstBelow
+  below-start = refl
+
+  module _ (i at : ℕ) (ea : at ≡ firstBelow e P s i) where
+    pub below-fits : (steps : ℕ) → ((k : ℕ) → k ≤ steps → e .size * firstBelow e P s k + e .size ≤ length P) → i < steps
+        → e .size * at + e .size ≤ length P
+    below-fits steps fits less = rw ea (fits i (omega arith))
+
+    pub below-next : (x : ℕ) → x ≡ number (part (16 + 4 * 0) 4 (block e P at)) → x ≡ firstBelow e P s (i + 1)
+    unfolding firstBelow
+    below-next x ex = rw (add-one) (ex ∙ ap (λ (t : ℕ). number (part 16 4 (block e P t))) ea)
+
+    pub below-done : (steps : ℕ) → i ≤ steps → steps ≤ i → at ≡ firstBelow e P s steps
+    below-done steps low high = ea ∙ ap (firstBelow e P s) (let z : i ≡ steps = omega arith in z)
+
+-- the block that is kept
+module _ (e : Edition) (P : List ℕ) (s steps from : ℕ) (ef : from ≡ firstBelow e P s steps) where
+  pub keep-fits : ((k : ℕ) → k ≤ steps → e .size * firstBelow e P s k + e .size ≤ length P) → e .size * from + e .size ≤ length P
+  keep-fits fits = rw ef (fits steps (omega arith))
+
+  pub keep-done : (kept b kept′ : List ℕ) → length kept ≡ e .size → b ≡ block e P from → length b ≡ e .size → kept′ ≡ part 0 (length kept) b
+      → kept′ ≡ block e P (firstBelow e P s steps)
+  unfolding part
+  keep-done kept b kept′ size eb long ek =
+      ek ∙ take-all (length kept) b (omega arith) ∙ eb ∙ ap (block e P) ef
+
+-- a block has room for a child
+pub some-fan : (e : Edition) → Proper e → 0 < e .fan
+some-fan e p = omega (arith, p .two)
+
+-- an inner block's first child
+first-child : (b row : List ℕ) → row ≡ childrenOf b → (countOf b ≡ 0 → ⊥) → getD row 0 past ≡ number (part 16 4 b)
+unfolding childrenOf
+first-child b row er some = rw er (ap (λ (l : List ℕ). getD l 0 past) (fours-first (countOf b) 0 b some))
+
+none-past : (row : List ℕ) → length row ≡ 0 → getD row 0 past ≡ past
+none-past [] z = refl
+none-past (x ∷ row) z = absurd (omega arith)
+
+inner-row : (h : ℕ) (b : List ℕ) → 1 ≤ h → rowOf h b ≡ childrenOf b
+unfolding rowOf
+inner-row zero b low = absurd (omega arith)
+inner-row (suc h) b low = refl
+
+-- in a blob that is known
+module _ (e : Edition) (p : Proper e) (n : ℕ) (P R : List ℕ) (w : Whole e n P R) (r len k : ℕ) (row hs fs : List ℕ)
+    (g : Known e n P R r len k row hs fs) where
+  -- the blob, and the left edge's slots
+  abbrev b : Blob
+  b = blobAt e P r
+
+  abbrev left : ℕ → ℕ
+  left j = leftmost (b .height) j (b .tree) .0
+
+  -- each lies in the pool
+  pub left-within : (j : ℕ) → j ≤ b .height → left j < n
+  left-within j low = g .fit (left j) _ (left-site e p b (g .standing .shaped) (g .standing .once) j low) .0 .within
+
+  -- one that is not a leaf has a first child, which is the next
+  left-next : (j : ℕ) → j < b .height → left (suc j) ≡ number (part 16 4 (block e P (left j)))
+  left-next j low =
+      let shaped = g .standing .shaped in
+      let once = g .standing .once in
+      let f = g .fit (left j) _ (left-site e p b shaped once j (omega arith)) in
+      let step = left-step e p b shaped once j low in
+      let children = f .1 ∙ inner-row (b .height - j) (block e P (left j)) (omega arith) in
+      let some : (countOf (block e P (left j)) ≡ 0 → ⊥) = λ z.
+      let out : left (suc j) ≡ past = step ∙ none-past (leftmost (b .height) j (b .tree) .1) (f .2 ∙ z) in
+      omega (arith, left-within (suc j) (omega arith), w .few, p .small) in
+      step ∙ first-child (block e P (left j)) _ children some
+
+  pub left-below : (j : ℕ) → j ≤ b .height → firstBelow e P r j ≡ left j
+  unfolding firstBelow
+  left-below zero low = sym (left-root e p b (g .standing .shaped) (g .standing .once) .0 ∙ g .named)
+  left-below (suc j) low =
+      ap (λ (t : ℕ). number (part 16 4 (block e P t))) (left-below j (omega arith)) ∙ sym (left-next j (omega arith))
+
+  pub left-fits : (j : ℕ) → j ≤ b .height → e .size * firstBelow e P r j + e .size ≤ length P
+  left-fits j low = rw (left-below j low) (slot-fits (e .size) n (left j) P (w .pool) (left-within j low))

@@ -1,0 +1,3 @@
+pub mod Left
+pub mod Start
+pub mod Loop

@@ -1,0 +1,177 @@
+-- The loops over the slots: a slot's turn is planned from pool and records as they were, since from slot i on they still are.
+use mathlib.Core.Path.{_≡_, refl, ap, _∙_, sym}
+use mathlib.Core.Bool.{Bool, true, false}
+use mathlib.Core.Logic.{_⊎_, inl, inr}
+use mathlib.Core.List.{List, [], _∷_}
+use Prim.Native.Nat.{ℕ, suc, _+_, _-_, _^_, _≤_, _<_}
+use native.Mathlib.Numerals.{add-one}
+use native.Mathlib.Omega.{arith}
+use lib.Dec.{eqb}
+use lib.ListN.{length, getD, length-append, length-replicate}
+use mir.Syntax.{w64}
+use mir.Val.{Fits}
+use Rattle.meaning.specs.declared.Edition.{Edition}
+use Rattle.meaning.specs.Lists.{pick, both, joined, range}
+use Rattle.meaning.specs.Edition.{Proper}
+use Rattle.meaning.specs.Bytes.{Cell, block, heightOf, countOf, state, recorded, recordAt, lastVersion}
+use Rattle.meaning.specs.Change.{Change, puts, freed, renewed}
+use Rattle.laws.proofs.Codec.{encoded-length, record-length}
+use Rattle.visit.proofs.Laws.{slot-fits}
+use Rattle.gate.specs.Gate.{Whole}
+use Rattle.turn.specs.declared.Turn.{Turn}
+use Rattle.turn.specs.Turned.{turned, turns, Rises}
+use Rattle.turn.proofs.Laws.{turns-length}
+use Rattle.change.specs.Places.{Places}
+use Rattle.change.specs.Turns.{over, Turning}
+use Rattle.change.proofs.Laws.{block-left, record-left, turning-on}
+use Rattle.renewal.specs.Renewal.{renewal}
+use Rattle.cutting.specs.declared.Cut.{Cut}
+use Rattle.cutting.specs.Plans.{Here, Rising, rootEnd, oldEnd, cutPlan}
+
+-- a plan goes by the slot's own block and record
+plan-same : (e : Edition) (c : Cut) (hs fs kept : List ℕ) (root : ℕ) (P R P₀ R₀ : List ℕ) (s : ℕ) → block e P s ≡ block e P₀ s
+    → recordAt R s ≡ recordAt R₀ s → cutPlan e c hs fs kept root P R s ≡ cutPlan e c hs fs kept root P₀ R₀ s
+unfolding cutPlan rootEnd oldEnd renewal renewed freed state recorded
+plan-same e c hs fs kept root P R P₀ R₀ s eb er = rw (eb, er)
+
+-- nothing, or one change of slot s
+abbrev Single : Edition → ℕ → List Change → Type 0
+Single e s l = (l ≡ [])
+    ⊎ ((b : List ℕ) × (line : List ℕ) × (l ≡ record { slot = s; block = b; line = line } ∷ []) × (length b ≡ e .size) × (length line ≡ 12))
+
+freed-one : (e : Edition) (R : List ℕ) (s : ℕ) → Single e s (freed e R s ∷ [])
+unfolding freed
+freed-one e R s = inr (_, _, refl, length-replicate (e .size) 0, record-length 0 (recorded R s))
+
+renewal-one : (e : Edition) (R : List ℕ) (s : ℕ) (b : List ℕ) (x : Cell) → Single e s (renewal e R s b x)
+unfolding renewal renewed pick
+renewal-one e R s b x = by (both (eqb (x .height) (heightOf b)) (eqb (length (x .row)) (countOf b)))
+  where
+    by : (q : Bool) → Single e s (pick q [] (renewed e R (state R s) s x ∷ []))
+    by true = inl refl
+    by false = inr (_, _, refl, encoded-length e x s (recorded R s + 1), record-length (state R s) (recorded R s + 1))
+
+pick-one : (e : Edition) (s : ℕ) (q : Bool) (a b : List Change) → Single e s a → Single e s b → Single e s (pick q a b)
+unfolding pick
+pick-one e s true a b x y = x
+pick-one e s false a b x y = y
+
+plan-one : (e : Edition) (c : Cut) (hs fs kept : List ℕ) (root : ℕ) (P R : List ℕ) (s : ℕ) → Single e s (cutPlan e c hs fs kept root P R s)
+unfolding cutPlan
+plan-one e c hs fs kept root P R s =
+    pick-one e s _ _ _ (inl refl)
+    (pick-one e s _ _ _ (renewal-one e R s (block e P s) (rootEnd e c hs fs kept root P R))
+    (pick-one e s _ _ _ (freed-one e R s)
+    (pick-one e s _ _ _ (freed-one e R s) (renewal-one e R s (block e P s) (oldEnd e c hs fs kept root P R s)))))
+
+-- before turn i
+module _ (e : Edition) (n : ℕ) (c : Cut) (hs fs kept : List ℕ) (root : ℕ) (P₀ R₀ : List ℕ) (i : ℕ) (P R : List ℕ)
+    (t : Turning e n (cutPlan e c hs fs kept root P₀ R₀) P₀ R₀ i P R) (less : i < n) where
+  abbrev plan : ℕ → List Change
+  plan = cutPlan e c hs fs kept root P₀ R₀
+
+  same-block : block e P i ≡ block e P₀ i
+  same-block = block-left e n plan P₀ R₀ i P R t
+
+  same-record : recordAt R i ≡ recordAt R₀ i
+  same-record = record-left e n plan P₀ R₀ i P R t
+
+  -- the slot can be planned
+  pub turn-here : ((s : ℕ) → s < n → Here e P₀ hs fs s) → Here e P hs fs i
+  turn-here all =
+      let here = all i less in
+      record {
+        place = omega (arith, here .place, t .poolLong);
+        heights = here .heights;
+        firsts = here .firsts;
+        power = here .power;
+        most = λ noted. rw same-block (here .most noted);
+      }
+
+  -- and its turn carried out
+  pub turn-places : Whole e n P₀ R₀ → (scratch : List ℕ) → length scratch ≡ e .size → Places e P R scratch i
+  turn-places w scratch size = record {
+    block = slot-fits (e .size) n i P (t .poolLong ∙ w .pool) less;
+    line = slot-fits 12 n i R (t .recordsLong ∙ w .records) less;
+    scratch = size;
+  }
+
+  pub turn-fresh : ((s : ℕ) → s < n → (getD hs s 0 ≡ 0 → ⊥) → recorded R₀ s < lastVersion) → (getD hs i 0 ≡ 0 → ⊥) → recorded R i < lastVersion
+  unfolding recorded
+  turn-fresh fresh noted = rw same-record (fresh i less noted)
+
+  -- after it one slot more is done
+  pub turn-done : Whole e n P₀ R₀ → (P′ R′ : List ℕ) → P′ ≡ puts (e .size) (λ c. c .block) (cutPlan e c hs fs kept root P R i) P
+      → R′ ≡ puts 12 (λ c. c .line) (cutPlan e c hs fs kept root P R i) R → Turning e n (cutPlan e c hs fs kept root P₀ R₀) P₀ R₀ (i + 1) P′ R′
+  turn-done w P′ R′ ep er =
+      let now = plan-same e c hs fs kept root P R P₀ R₀ i same-block same-record in
+      turning-on e n plan P₀ R₀ i P R t less (w .pool) (w .records) (plan-one e c hs fs kept root P₀ R₀ i) P′ R′ (rw now at ep) (rw now at er)
+
+-- a slot has a number of four bytes
+pub turn-small : (e : Edition) (n : ℕ) (P R : List ℕ) → Proper e → Whole e n P R → (i : ℕ) → i < n → i < 2 ^ 32
+turn-small e n P R p w i less = omega (arith, w .few, p .small)
+
+-- the drawn payload is as long as a payload, and a version may rise
+pub carry-payload : (e : Edition) (x x′ : List ℕ) → length x ≡ e .leaf → length x′ ≡ length x → length x′ ≤ e .leaf
+carry-payload e x x′ size same = omega arith
+
+pub carry-rises : (hs R : List ℕ) (i : ℕ) (turn : Turn) → Rising hs i turn → ((getD hs i 0 ≡ 0 → ⊥) → recorded R i < lastVersion)
+    → Rises turn (recorded R i)
+carry-rises hs R i turn rising fresh = rising .rises (recorded R i) fresh
+
+-- carried out: what the turn changes is what is planned
+module _ (e : Edition) (c : Cut) (hs fs kept : List ℕ) (root : ℕ) (P R : List ℕ) (i : ℕ) (turn : Turn) (x : List ℕ) where
+  module _ (planned : (R : List ℕ) → turned e R i turn x ≡ cutPlan e c hs fs kept root P R i) where
+    pub carry-pool : (P′ : List ℕ) → P′ ≡ puts (e .size) (λ c. c .block) (turned e R i turn x) P
+        → P′ ≡ puts (e .size) (λ c. c .block) (cutPlan e c hs fs kept root P R i) P
+    carry-pool P′ ep = rw (planned R) at ep
+
+    pub carry-records : (R′ : List ℕ) → R′ ≡ puts 12 (λ c. c .line) (turned e R i turn x) R
+        → R′ ≡ puts 12 (λ c. c .line) (cutPlan e c hs fs kept root P R i) R
+    carry-records R′ er = rw (planned R) at er
+
+-- what a slot's plan counts
+pub one-count : (e : Edition) (c : Cut) (hs fs kept : List ℕ) (root : ℕ) (P : List ℕ) (i : ℕ) (turn : Turn) (x : List ℕ)
+    → ((R : List ℕ) → turned e R i turn x ≡ cutPlan e c hs fs kept root P R i) → (k : ℕ) → k ≡ turns turn
+    → (R : List ℕ) → k ≡ length (cutPlan e c hs fs kept root P R i)
+one-count e c hs fs kept root P i turn x planned k ek R = ek ∙ sym (turns-length e R i turn x) ∙ ap length (planned R)
+
+-- what is counted before turn i, whatever the records are
+pub record Counted (e : Edition) (n : ℕ) (c : Cut) (hs fs kept : List ℕ) (root : ℕ) (P : List ℕ) (i count : ℕ) : Type 0 where
+  pub all : (R : List ℕ) → length (over (cutPlan e c hs fs kept root P R) 0 n) ≡ count + length (over (cutPlan e c hs fs kept root P R) i (n - i))
+  pub few : count ≤ i
+  pub within : i ≤ n
+
+-- the slots from i on
+over-none : (plan : ℕ → List Change) (i n : ℕ) → n ≤ i → length (over plan i (n - i)) ≡ 0
+unfolding over joined range
+over-none plan i n h = let z : n - i ≡ 0 = omega arith in rw z
+
+over-step : (plan : ℕ → List Change) (i n : ℕ) → i < n → length (over plan i (n - i)) ≡ length (plan i) + length (over plan (i + 1) (n - (i + 1)))
+unfolding over joined range
+over-step plan i n h = let z : n - i ≡ suc (n - suc i) = omega arith in rw (z, add-one) (length-append (plan i) _)
+
+module _ (e : Edition) (n : ℕ) (c : Cut) (hs fs kept : List ℕ) (root : ℕ) (P : List ℕ) where
+  pub count-start : Counted e n c hs fs kept root P 0 0
+  count-start = let z : n - 0 ≡ n = omega arith in record { all = λ R. rw z (omega arith); few = omega arith; within = omega arith }
+
+  module _ (i count : ℕ) (q : Counted e n c hs fs kept root P i count) where
+    pub count-done : n ≤ i → (R : List ℕ) → count ≡ length (over (cutPlan e c hs fs kept root P R) 0 n)
+    count-done end R = omega (arith, q .all R, over-none (cutPlan e c hs fs kept root P R) i n end)
+
+    pub count-most : count ≤ n
+    count-most = omega (arith, q .few, q .within)
+
+    pub count-here : i < n → ((s : ℕ) → s < n → Here e P hs fs s) → Here e P hs fs i
+    count-here less all = all i less
+
+    module _ (less : i < n) (k : ℕ) (small : k ≤ 1) where
+      pub count-fits : Fits w64 n → Fits w64 (count + k)
+      count-fits fits = record { fits = omega (arith, fits .fits, q .few) }
+
+      pub count-next : ((R : List ℕ) → k ≡ length (cutPlan e c hs fs kept root P R i)) → Counted e n c hs fs kept root P (i + 1) (count + k)
+      count-next one = record {
+        all = λ R. omega (arith, q .all R, over-step (cutPlan e c hs fs kept root P R) i n less, one R);
+        few = omega (arith, q .few);
+        within = omega arith;
+      }
