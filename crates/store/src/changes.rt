@@ -4,7 +4,7 @@ use meaning::Changed;
 use meaning::Created;
 use meaning::Finished;
 ghost use Rattle.meaning.specs.Edition.{one};
-ghost use Rattle.meaning.specs.Calls.{createCall, deleteCall, writeCall};
+ghost use Rattle.meaning.specs.Calls.{createCall, writeCall, resizeCall, deleteCall};
 ghost use Rattle.meaning.specs.Answers.{createAnswer, changeAnswer, Ends, Wipes};
 
 // Pool all zeros, each record free at version 0.
@@ -84,6 +84,40 @@ pub fn write(pool: &mut [u8], records: &mut [u8], root: u64, offset: u64, src: &
                 root,
                 offset,
                 src,
+            )
+        }
+    }
+}
+
+// A blob gets another length: cut, or filled with zeros.
+pub fn resize(pool: &mut [u8], records: &mut [u8], root: u64, length: u64) -> Changed
+    ensures { λ r. ⌜ Ends one changeAnswer (resizeCall one (now (pool .entry)) (now (records .entry)) root length) (now (pool .entry)) (now (records .entry)) r (now (pool .exit)) (now (records .exit)) ⌝ }
+{
+    let e = meaning::edition_one();
+    let mut seen = [0u8; 1024];
+    let mut row = [0u32; 1024];
+    let mut heights = [0u8; 1024];
+    let mut firsts = [0u32; 1024];
+    let mut kept = [0u8; 64];
+    let mut payload = [0u8; 48];
+    let mut scratch = [0u8; 64];
+    match gate::open(e, pool, records) {
+        Opened::Refused(r) => Changed::Refused(r),
+        Opened::Slots(n) => {
+            sizing::resize_in(
+                e,
+                pool,
+                records,
+                &mut seen[0..n],
+                &mut row[0..n],
+                &mut heights[0..n],
+                &mut firsts[0..n],
+                &mut kept,
+                &mut payload,
+                &mut scratch,
+                n,
+                root,
+                length,
             )
         }
     }
