@@ -58,6 +58,7 @@ impl Player {
             "L" | "R" | "F" | "S" | "A" | "B" | "C" | "E" => self.reading(name, n),
             "O" | "N" | "W" | "Z" | "D" | "Y" | "X" => self.changing(name, n),
             "H" => self.hex(),
+            "T" => self.slot(n[0] as usize),
             "G" => self.sums(),
             _ => panic!("no command {name}"),
         }
@@ -244,10 +245,14 @@ impl Player {
     fn hex(&mut self) {
         let slots = self.pool.len().div_ceil(64).max(self.records.len().div_ceil(12));
         for slot in 0..slots {
-            let record = bracketed(self.records.chunks(12).nth(slot).unwrap_or(&[]));
-            let block = bracketed(self.pool.chunks(64).nth(slot).unwrap_or(&[]));
-            self.print(&format!("slot {slot}{record}{block}"));
+            self.slot(slot);
         }
+    }
+
+    fn slot(&mut self, slot: usize) {
+        let record = bracketed(self.records.chunks(12).nth(slot).unwrap_or(&[]));
+        let block = bracketed(self.pool.chunks(64).nth(slot).unwrap_or(&[]));
+        self.print(&format!("slot {slot}{record}{block}"));
     }
 
     fn sums(&mut self) {
