@@ -53,38 +53,36 @@ fn fill(data: &mut [u8], first: u64) {
     }
 }
 
-// Write and resize wait for the store to have them.
-//
-// // At most 256 bytes are written: first, first + 1 and so on, modulo 256.
-// pub fn write(
-//     label: &[u8],
-//     pool: &mut [u8],
-//     records: &mut [u8],
-//     root: u64,
-//     offset: u64,
-//     first: u64,
-//     count: usize,
-// ) {
-//     let mut data = [0u8; 256];
-//     fill(&mut data, first);
-//     say::start(label, b"write");
-//     say::number(root);
-//     say::number(offset);
-//     say::number(first);
-//     say::number(count as u64);
-//     say::answer();
-//     if count <= 256 {
-//         say_changed(store::changes::write(pool, records, root, offset, &data[0..count]));
-//     }
-// }
+// At most 256 bytes are written: first, first + 1 and so on, modulo 256.
+pub fn write(
+    label: &[u8],
+    pool: &mut [u8],
+    records: &mut [u8],
+    root: u64,
+    offset: u64,
+    first: u64,
+    count: usize,
+) {
+    let mut data = [0u8; 256];
+    fill(&mut data, first);
+    say::start(label, b"write");
+    say::number(root);
+    say::number(offset);
+    say::number(first);
+    say::number(count as u64);
+    say::answer();
+    if count <= 256 {
+        say_changed(store::changes::write(pool, records, root, offset, &data[0..count]));
+    }
+}
 
-// pub fn resize(label: &[u8], pool: &mut [u8], records: &mut [u8], root: u64, length: u64) {
-//     say::start(label, b"resize");
-//     say::number(root);
-//     say::number(length);
-//     say::answer();
-//     say_changed(store::changes::resize(pool, records, root, length));
-// }
+pub fn resize(label: &[u8], pool: &mut [u8], records: &mut [u8], root: u64, length: u64) {
+    say::start(label, b"resize");
+    say::number(root);
+    say::number(length);
+    say::answer();
+    say_changed(store::changes::resize(pool, records, root, length));
+}
 
 pub fn delete(label: &[u8], pool: &mut [u8], records: &mut [u8], root: u64) {
     say::start(label, b"delete");
@@ -95,8 +93,8 @@ pub fn delete(label: &[u8], pool: &mut [u8], records: &mut [u8], root: u64) {
 
 // Every changing call that names a root, then the store in hex.
 pub fn rooted(label: &[u8], pool: &mut [u8], records: &mut [u8], root: u64) {
-    // write(label, pool, records, root, 0, 165, 1);
-    // resize(label, pool, records, root, 100);
+    write(label, pool, records, root, 0, 165, 1);
+    resize(label, pool, records, root, 100);
     delete(label, pool, records, root);
     dump::hex(label, pool, records);
 }

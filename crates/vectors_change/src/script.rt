@@ -12,8 +12,8 @@ fn change(label: &[u8], name: u8, n: Numbers, pool: &mut [u8], records: &mut [u8
     match name {
         b'O' => run::wipe(label, pool, records),
         b'N' => run::create(label, pool, records),
-        // b'W' => run::write(label, pool, records, n.a, n.b, n.c, n.d as usize),
-        // b'Z' => run::resize(label, pool, records, n.a, n.b),
+        b'W' => run::write(label, pool, records, n.a, n.b, n.c, n.d as usize),
+        b'Z' => run::resize(label, pool, records, n.a, n.b),
         b'D' => run::delete(label, pool, records, n.a),
         b'Y' => run::rooted(label, pool, records, n.a),
         b'X' => run::every(label, pool, records, n.a),
