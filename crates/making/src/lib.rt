@@ -28,8 +28,9 @@ fn create_free(
         return Created::Refused(meaning::refuse_nowhere(11));
     };
     let version = record::version_of(slot::record_of(records, slot));
+    let next = version + 1;
     let none = [0u8; 0];
-    change::put_cell(e, pool, records, scratch, slot, 0, 0, &none, 2, version + 1);
+    change::put_cell(e, pool, records, scratch, slot, 0, 0, &none, 2, next);
     Created::At(slot as u64)
 }
 

@@ -28,11 +28,11 @@ record-of-requires c κs = search create-line
 version-of-requires : tie.Need-version-of-requires
 version-of-requires c κs = search needs
 
+add-next : tie.Need-add-next
+add-next c = search create-fits
+
 slice-aggregate-put-cell : tie.Need-slice-aggregate-put-cell
 slice-aggregate-put-cell c = search needs
-
-add-put-cell : tie.Need-add-put-cell
-add-put-cell c = search create-fits
 
 put-cell-requires : tie.Need-put-cell-requires
 put-cell-requires c κs = (search needs, (search create-places, (search create-small, search needs)))
@@ -61,8 +61,8 @@ create-free-spec =
     returns
     record-of-requires
     version-of-requires
+    add-next
     slice-aggregate-put-cell
-    add-put-cell
     put-cell-requires
     same-length-2
     same-length-3

@@ -1,0 +1,4 @@
+pub mod Rows
+pub mod Slots
+pub mod Copies
+pub mod Cells

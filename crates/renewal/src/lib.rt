@@ -1,0 +1,1 @@
+// What a resize makes of a block that stays: pure laws.
