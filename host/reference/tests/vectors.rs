@@ -23,3 +23,8 @@ fn plays_as_published(program: &str) {
 fn reading_calls() {
     plays_as_published("vectors_read");
 }
+
+#[test]
+fn changing_calls() {
+    plays_as_published("vectors_change");
+}
