@@ -2,8 +2,8 @@
 use Prim.Native.Nat.{_≤_, _-_}
 use borrow.Author.Needs.{needs}
 use lib.ListN.{length}
-use Rattle.vectors_read.proofs.say.hex.Statement.{statement}
-use Rattle.vectors_read.proofs.say.hex.Tie as tie
+use Rattle.vectors_say.proofs.say.hex.Statement.{statement}
+use Rattle.vectors_say.proofs.say.hex.Tie as tie
 
 abbrev Inv-loop : tie.InvT-loop
 Inv-loop bytes i₀ t4 i = i ≤ length bytes
