@@ -79,29 +79,29 @@ extern "C" {
 #define TJ_WORN 12
 
 /* Makes the store empty: the pool all zeros, each record free at version 0. Old blocks pass again after it: wipe only what is new. No value. */
-void tj_wipe(uint8_t *pool, size_t pool_length, uint8_t *records, size_t records_length, uint64_t *answer);
+void tj_wipe(uint8_t *pool, size_t pool_length, uint8_t *records, size_t records_length, uint64_t answer[TJ_ANSWER]);
 
 /* Makes an empty blob, in the lowest usable free slot. Value: that slot, the new blob's root. */
-void tj_create(uint8_t *pool, size_t pool_length, uint8_t *records, size_t records_length, uint64_t *answer);
+void tj_create(uint8_t *pool, size_t pool_length, uint8_t *records, size_t records_length, uint64_t answer[TJ_ANSWER]);
 
 /* Value: the blob's length in bytes. */
-void tj_length(const uint8_t *pool, size_t pool_length, const uint8_t *records, size_t records_length, uint64_t root, uint64_t *answer);
+void tj_length(const uint8_t *pool, size_t pool_length, const uint8_t *records, size_t records_length, uint64_t root, uint64_t answer[TJ_ANSWER]);
 
-/* Fills the whole of out with the blob's bytes from the offset on. Zero bytes at the blob's end may be read. If refused, out is untouched.
- * No value. */
+/* Fills the whole of out with the blob's bytes from the offset on. A read of no bytes is done up to the blob's very end. If the
+ * call is refused, out is untouched. No value. */
 void tj_read(const uint8_t *pool, size_t pool_length, const uint8_t *records, size_t records_length, uint64_t root, uint64_t offset,
-             uint8_t *out, size_t out_length, uint64_t *answer);
+             uint8_t *out, size_t out_length, uint64_t answer[TJ_ANSWER]);
 
 /* Removes the blob with all its blocks. No value. */
-void tj_delete(uint8_t *pool, size_t pool_length, uint8_t *records, size_t records_length, uint64_t root, uint64_t *answer);
+void tj_delete(uint8_t *pool, size_t pool_length, uint8_t *records, size_t records_length, uint64_t root, uint64_t answer[TJ_ANSWER]);
 
 /* Shows a leaf of the blob, counted from 0: its data bytes as they lie in the pool, not a copy.
  * Value: where in the pool they start. answer[TJ_COUNT]: how many they are. */
 void tj_show(const uint8_t *pool, size_t pool_length, const uint8_t *records, size_t records_length, uint64_t root, uint64_t leaf,
-             uint64_t *answer);
+             uint64_t answer[TJ_ANSWER]);
 
 /* Checks the whole pool. Value: the count of slots in use. */
-void tj_audit(const uint8_t *pool, size_t pool_length, const uint8_t *records, size_t records_length, uint64_t *answer);
+void tj_audit(const uint8_t *pool, size_t pool_length, const uint8_t *records, size_t records_length, uint64_t answer[TJ_ANSWER]);
 
 #ifdef __cplusplus
 }
