@@ -92,6 +92,10 @@ void tj_length(const uint8_t *pool, size_t pool_length, const uint8_t *records, 
 void tj_read(const uint8_t *pool, size_t pool_length, const uint8_t *records, size_t records_length, uint64_t root, uint64_t offset,
              uint8_t *out, size_t out_length, uint64_t answer[TJ_ANSWER]);
 
+/* Puts data into the blob from the offset on, inside its present length. No value. */
+void tj_write(uint8_t *pool, size_t pool_length, uint8_t *records, size_t records_length, uint64_t root, uint64_t offset,
+              const uint8_t *data, size_t data_length, uint64_t answer[TJ_ANSWER]);
+
 /* Removes the blob with all its blocks. No value. */
 void tj_delete(uint8_t *pool, size_t pool_length, uint8_t *records, size_t records_length, uint64_t root, uint64_t answer[TJ_ANSWER]);
 

@@ -115,6 +115,11 @@ static void audit(void)
     tj_audit(pool, sizeof pool, records, sizeof records, answer);
 }
 
+static void write_bytes(uint64_t root, uint64_t offset, const char *text, size_t size)
+{
+    tj_write(pool, sizeof pool, records, sizeof records, root, offset, (const uint8_t *)text, size, answer);
+}
+
 static void delete_blob(uint64_t root)
 {
     tj_delete(pool, sizeof pool, records, sizeof records, root, answer);
@@ -202,6 +207,32 @@ static void test_reading(void)
     CHECK(done(1));
 }
 
+/* A changed block goes one version up; equal bytes and no bytes change nothing; nothing is written past the end. */
+static void test_write(void)
+{
+    wipe();
+    lay_record(2, 2, 9);
+    lay_leaf(2, 9, "abc");
+    CHECK(done(0));
+    write_bytes(2, 1, "XY", 2);
+    CHECK(done(0));
+    CHECK(leaf_is(2, 10, "aXY") && record_is(2, 2, 10));
+    write_bytes(2, 0, "aX", 2);
+    CHECK(done(0));
+    write_bytes(2, 3, "", 0);
+    CHECK(done(0));
+    write_bytes(2, 2, "pq", 2);
+    CHECK(refused(TJ_OUT_OF_RANGE, TJ_NO_SLOT));
+    write_bytes(0, 0, "a", 1);
+    CHECK(refused(TJ_NO_ROOT, TJ_NO_SLOT));
+    CHECK(leaf_is(2, 10, "aXY") && record_is(2, 2, 10));
+    CHECK(zeros(pool, 2 * TJ_BLOCK) && zeros(pool + 3 * TJ_BLOCK, TJ_BLOCK));
+    memset(records + 2 * TJ_RECORD + 4, 0xFF, 8);
+    memset(pool + 2 * TJ_BLOCK + 8, 0xFF, 8);
+    write_bytes(2, 0, "", 0);
+    CHECK(refused(TJ_WORN, TJ_NO_SLOT));
+}
+
 /* Lengths that do not fit are refused with 1 by every call, and nothing is touched. */
 static void test_lengths(void)
 {
@@ -221,6 +252,8 @@ static void test_lengths(void)
     tj_audit(pool, TJ_BLOCK, records, sizeof records, answer);
     CHECK(refused(TJ_BAD_LENGTHS, TJ_NO_SLOT));
     tj_delete(pool, TJ_BLOCK + 1, records, TJ_RECORD, 0, answer);
+    CHECK(refused(TJ_BAD_LENGTHS, TJ_NO_SLOT));
+    tj_write(pool, sizeof pool - TJ_BLOCK, records, sizeof records, 0, 0, out, 1, answer);
     CHECK(refused(TJ_BAD_LENGTHS, TJ_NO_SLOT));
     CHECK(pool[0] == 0x5A && records[0] == 0x5A && out[0] == 0x77);
 }
@@ -284,6 +317,7 @@ int main(void)
     test_create_and_delete();
     test_empty_blob();
     test_reading();
+    test_write();
     test_lengths();
     test_named_slots();
     test_full();
