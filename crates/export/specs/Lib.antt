@@ -1,0 +1,2 @@
+-- What the library for C answers: eight numbers.
+pub mod Numbers

@@ -1,0 +1,114 @@
+/*
+ * Tjornsaki: a small block store over two byte areas that the caller lends.
+ *
+ * The pool holds N blocks of 64 bytes, N from 1 to 1,024, and is not trusted. The records hold N records of 12 bytes and are trusted: they
+ * say which slots are in use and at which version. A blob is a string of bytes, named by its root's slot, which stays the same as long as the
+ * blob lives.
+ *
+ * Every function takes any pool, any records, any lengths and any numbers: what does not fit is refused, and nothing is undefined, as long as
+ *   - no pointer is NULL, also before a length of 0, and each points to as many bytes as the length after it says,
+ *   - answer points to eight numbers,
+ *   - pool, records, out and answer do not overlap, and neither does data with pool, records or answer,
+ *   - no other thread touches them during the call.
+ * A function keeps no pointer and nothing else between calls, takes no memory from the heap, and calls nothing but C's memset.
+ *
+ * Every function leaves eight numbers in answer, whatever was there before:
+ *   answer[TJ_REFUSAL]      the number of the refusal, 0 if the call was done
+ *   answer[TJ_SLOT]         the slot that the refusal names, TJ_NO_SLOT if it names none or if the call was done
+ *   answer[TJ_VALUE]        the call's value, as said below; 0 if there is none or if the call was refused
+ *   answer[TJ_COUNT]        tj_show: how many bytes the shown part has; 0 in every other case
+ *   answer[4] to answer[7]  0
+ *
+ * A call that is refused writes nothing but answer. The refusals, of which the first that holds is given:
+ *
+ *    1  the pool's length is not 64 N with N from 1 to 1,024, or the records' length is not 12 N
+ *    2  a record breaks its layout; names the lowest such slot
+ *    3  the named root is not below N, or its record is not a root
+ *    4  spoiled: a block's mark is wrong; names the block's slot
+ *    5  moved: a block says another slot than its own; names the slot where it lies
+ *    6  rolled back: a block's version is below its record; names its slot
+ *    7  ahead: a block's version is above its record; names its slot
+ *    8  wrong shape: names the block whose height, count, trailing bytes or child is wrong, or the part that no blob has
+ *    9  reintroduced: a block in a free slot; names that slot
+ *   10  the stretch does not lie within the blob's length, or the blob has no leaf of that number
+ *   11  more new blocks are needed than there are usable free slots
+ *   12  write or resize of a blob that has a block at version 2^64 - 1
+ *
+ * They come in this order: 1; 2; 3 where a root is named; 4 to 9 for the blob (length, read, show) or for the whole pool (create, write,
+ * resize, delete, audit); 12; 10; 11. tj_wipe knows refusal 1 only. The refusals 1, 3, 10, 11 and 12 name no slot.
+ */
+#ifndef TJORNSAKI_H
+#define TJORNSAKI_H
+
+#include <stddef.h>
+#include <stdint.h>
+
+#ifdef __cplusplus
+extern "C" {
+#endif
+
+/* The numbers in an answer, and the places of those that have a name. */
+#define TJ_ANSWER 8
+#define TJ_REFUSAL 0
+#define TJ_SLOT 1
+#define TJ_VALUE 2
+#define TJ_COUNT 3
+
+/* The number that stands for no slot. */
+#define TJ_NO_SLOT UINT64_MAX
+
+/* The bytes of a block and of a record, the data bytes of a leaf, and the most slots of a pool. */
+#define TJ_BLOCK 64
+#define TJ_RECORD 12
+#define TJ_LEAF 48
+#define TJ_SLOTS 1024
+
+/* The refusals. */
+#define TJ_DONE 0
+#define TJ_BAD_LENGTHS 1
+#define TJ_BAD_RECORD 2
+#define TJ_NO_ROOT 3
+#define TJ_SPOILED 4
+#define TJ_MOVED 5
+#define TJ_ROLLED_BACK 6
+#define TJ_AHEAD 7
+#define TJ_WRONG_SHAPE 8
+#define TJ_REINTRODUCED 9
+#define TJ_OUT_OF_RANGE 10
+#define TJ_FULL 11
+#define TJ_WORN 12
+
+/* Makes the store empty: the pool all zeros, each record free at version 0. Old blocks pass again after it: wipe only what is new. No value. */
+void tj_wipe(uint8_t *pool, size_t pool_length, uint8_t *records, size_t records_length, uint64_t answer[TJ_ANSWER]);
+
+/* Makes an empty blob, in the lowest usable free slot. Value: that slot, the new blob's root. */
+void tj_create(uint8_t *pool, size_t pool_length, uint8_t *records, size_t records_length, uint64_t answer[TJ_ANSWER]);
+
+/* Value: the blob's length in bytes. */
+void tj_length(const uint8_t *pool, size_t pool_length, const uint8_t *records, size_t records_length, uint64_t root, uint64_t answer[TJ_ANSWER]);
+
+/* Fills the whole of out with the blob's bytes from the offset on. A read of no bytes is done up to the blob's very end. If the
+ * call is refused, out is untouched. No value. */
+void tj_read(const uint8_t *pool, size_t pool_length, const uint8_t *records, size_t records_length, uint64_t root, uint64_t offset,
+             uint8_t *out, size_t out_length, uint64_t answer[TJ_ANSWER]);
+
+/* Puts data into the blob from the offset on, inside its present length. No value. */
+void tj_write(uint8_t *pool, size_t pool_length, uint8_t *records, size_t records_length, uint64_t root, uint64_t offset,
+              const uint8_t *data, size_t data_length, uint64_t answer[TJ_ANSWER]);
+
+/* Removes the blob with all its blocks. No value. */
+void tj_delete(uint8_t *pool, size_t pool_length, uint8_t *records, size_t records_length, uint64_t root, uint64_t answer[TJ_ANSWER]);
+
+/* Shows a leaf of the blob, counted from 0: its data bytes as they lie in the pool, not a copy.
+ * Value: where in the pool they start. answer[TJ_COUNT]: how many they are. */
+void tj_show(const uint8_t *pool, size_t pool_length, const uint8_t *records, size_t records_length, uint64_t root, uint64_t leaf,
+             uint64_t answer[TJ_ANSWER]);
+
+/* Checks the whole pool. Value: the count of slots in use. */
+void tj_audit(const uint8_t *pool, size_t pool_length, const uint8_t *records, size_t records_length, uint64_t answer[TJ_ANSWER]);
+
+#ifdef __cplusplus
+}
+#endif
+
+#endif
