@@ -96,6 +96,10 @@ void tj_read(const uint8_t *pool, size_t pool_length, const uint8_t *records, si
 void tj_write(uint8_t *pool, size_t pool_length, uint8_t *records, size_t records_length, uint64_t root, uint64_t offset,
               const uint8_t *data, size_t data_length, uint64_t answer[TJ_ANSWER]);
 
+/* Gives the blob that length. What is added is zeros; what is cut off is gone. No value. */
+void tj_resize(uint8_t *pool, size_t pool_length, uint8_t *records, size_t records_length, uint64_t root, uint64_t length,
+               uint64_t answer[TJ_ANSWER]);
+
 /* Removes the blob with all its blocks. No value. */
 void tj_delete(uint8_t *pool, size_t pool_length, uint8_t *records, size_t records_length, uint64_t root, uint64_t answer[TJ_ANSWER]);
 

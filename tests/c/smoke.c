@@ -120,6 +120,11 @@ static void write_bytes(uint64_t root, uint64_t offset, const char *text, size_t
     tj_write(pool, sizeof pool, records, sizeof records, root, offset, (const uint8_t *)text, size, answer);
 }
 
+static void resize(uint64_t root, uint64_t size)
+{
+    tj_resize(pool, sizeof pool, records, sizeof records, root, size, answer);
+}
+
 static void delete_blob(uint64_t root)
 {
     tj_delete(pool, sizeof pool, records, sizeof records, root, answer);
@@ -233,6 +238,41 @@ static void test_write(void)
     CHECK(refused(TJ_WORN, TJ_NO_SLOT));
 }
 
+/* From one leaf to two and back: what is added is zeros, and a freed slot keeps its version. */
+static void test_resize(void)
+{
+    uint8_t out[5];
+    wipe();
+    create();
+    resize(0, 49);
+    CHECK(done(0));
+    CHECK(record_is(0, 2, 2) && record_is(1, 1, 1) && record_is(2, 1, 1));
+    length(0);
+    CHECK(done(49));
+    audit();
+    CHECK(done(3));
+    write_bytes(0, 46, "wxy", 3);
+    CHECK(done(0));
+    CHECK(record_is(0, 2, 2) && record_is(1, 1, 2) && record_is(2, 1, 2));
+    read(0, 44, out, sizeof out);
+    CHECK(done(0));
+    CHECK(memcmp(out, "\0\0wxy", sizeof out) == 0);
+    show(0, 1);
+    CHECK(says(TJ_DONE, TJ_NO_SLOT, 2 * TJ_BLOCK + 16, 1));
+    resize(0, 48);
+    CHECK(done(0));
+    CHECK(record_is(0, 2, 3) && record_is(1, 0, 2) && record_is(2, 0, 2));
+    CHECK(zeros(pool + TJ_BLOCK, 3 * TJ_BLOCK));
+    resize(0, 12 * TJ_LEAF);
+    CHECK(refused(TJ_FULL, TJ_NO_SLOT));
+    resize(UINT64_MAX, UINT64_MAX);
+    CHECK(refused(TJ_NO_ROOT, TJ_NO_SLOT));
+    memset(records + 4, 0xFF, 8);
+    memset(pool + 8, 0xFF, 8);
+    resize(0, 0);
+    CHECK(refused(TJ_WORN, TJ_NO_SLOT));
+}
+
 /* Lengths that do not fit are refused with 1 by every call, and nothing is touched. */
 static void test_lengths(void)
 {
@@ -254,6 +294,8 @@ static void test_lengths(void)
     tj_delete(pool, TJ_BLOCK + 1, records, TJ_RECORD, 0, answer);
     CHECK(refused(TJ_BAD_LENGTHS, TJ_NO_SLOT));
     tj_write(pool, sizeof pool - TJ_BLOCK, records, sizeof records, 0, 0, out, 1, answer);
+    CHECK(refused(TJ_BAD_LENGTHS, TJ_NO_SLOT));
+    tj_resize(pool, sizeof pool, records, 1, 0, 0, answer);
     CHECK(refused(TJ_BAD_LENGTHS, TJ_NO_SLOT));
     CHECK(pool[0] == 0x5A && records[0] == 0x5A && out[0] == 0x77);
 }
@@ -318,6 +360,7 @@ int main(void)
     test_empty_blob();
     test_reading();
     test_write();
+    test_resize();
     test_lengths();
     test_named_slots();
     test_full();

@@ -2,7 +2,7 @@
 use crate::answers;
 use meaning::Created;
 ghost use Rattle.meaning.specs.Edition.{one};
-ghost use Rattle.meaning.specs.Calls.{createCall, writeCall, deleteCall};
+ghost use Rattle.meaning.specs.Calls.{createCall, writeCall, resizeCall, deleteCall};
 ghost use Rattle.meaning.specs.Answers.{Ends};
 ghost use Rattle.export.specs.Numbers.{createNumbers, changeNumbers, WipeNumbers};
 
@@ -39,6 +39,21 @@ pub extern "C" fn tj_write(
     ensures { λ _. ⌜ Ends one changeNumbers (writeCall one (now (pool .entry)) (now (records .entry)) root offset (now (src .entry))) (now (pool .entry)) (now (records .entry)) (now (answer .exit)) (now (pool .exit)) (now (records .exit)) ⌝ }
 {
     let x = store::changes::write(pool, records, root, offset, src);
+    answers::put_changed(answer, x)
+}
+
+// A blob gets that length.
+#[no_mangle]
+pub extern "C" fn tj_resize(
+    pool: &mut [u8],
+    records: &mut [u8],
+    root: u64,
+    length: u64,
+    answer: &mut [u64; 8],
+)
+    ensures { λ _. ⌜ Ends one changeNumbers (resizeCall one (now (pool .entry)) (now (records .entry)) root length) (now (pool .entry)) (now (records .entry)) (now (answer .exit)) (now (pool .exit)) (now (records .exit)) ⌝ }
+{
+    let x = store::changes::resize(pool, records, root, length);
     answers::put_changed(answer, x)
 }
 
