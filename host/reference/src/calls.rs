@@ -8,7 +8,7 @@ use crate::bytes::{
     BLOCK_BYTES, LEAF_BYTES, MOST_SLOTS, PAYLOAD_START, RECORD_BYTES, WORN_VERSION,
 };
 use crate::cells::{count_usable, decode_cells, take_lowest_usable, write_out};
-use crate::refusals::Refusal;
+use crate::refusals::{No, Refusal};
 use crate::resize::{lengthen, shorten};
 use crate::shape::{block_total, leaf_count, leaf_share};
 use crate::walk::{blob_check, pool_check, Blob};
@@ -31,7 +31,7 @@ pub fn create(pool: &mut [u8], records: &mut [u8]) -> Result<u64, Refusal> {
     let before = decode_cells(pool, &decoded);
     let mut after = before.clone();
     let taken = take_lowest_usable(&mut after, State::Root, Content::empty(0));
-    let slot = taken.ok_or(Refusal::no_room())?;
+    let slot = taken.ok_or(No::Full.plain())?;
     write_out(&before, &after, pool, records);
     Ok(slot as u64)
 }
@@ -90,7 +90,7 @@ pub fn resize(pool: &mut [u8], records: &mut [u8], root: u64, length: u64) -> Re
     let total_before = block_total(leaf_count(blob.length));
     let needed = block_total(leaf_count(length)).saturating_sub(total_before);
     if needed > count_usable(&before) {
-        return Err(Refusal::no_room());
+        return Err(No::Full.plain());
     }
     let mut after = before.clone();
     if length >= blob.length {
@@ -120,7 +120,7 @@ pub fn show(pool: &[u8], records: &[u8], root: u64, leaf: u64) -> Result<(usize,
     let blob = checked_blob(pool, records, root)?;
     // "the leaf number is not below n": 10. Leaves count from 0 (reading 19).
     if leaf >= leaf_count(blob.length) {
-        return Err(Refusal::out_of_range());
+        return Err(No::OutOfRange.plain());
     }
     let start = blob.leaves[leaf as usize] * BLOCK_BYTES + PAYLOAD_START;
     Ok((start, usize::from(leaf_share(blob.length, leaf))))
@@ -151,18 +151,18 @@ fn checked_pool_and_blob(
     let root = check_root(&decoded, root)?;
     let blobs = pool_check(pool, &decoded)?;
     let named = blobs.into_iter().find(|blob| blob.root == root);
-    Ok((decoded, named.ok_or(Refusal::not_a_root())?))
+    Ok((decoded, named.ok_or(No::NotARoot.plain())?))
 }
 
 /// 1: "pool length is not 64 N with N from 1 to 1,024, or records length is
 /// not 12 N". Answers N.
 fn check_lengths(pool: &[u8], records: &[u8]) -> Result<usize, Refusal> {
     let slots = pool.len() / BLOCK_BYTES;
-    let pool_fits = pool.len().is_multiple_of(BLOCK_BYTES) && (1..=MOST_SLOTS).contains(&slots);
+    let pool_fits = pool.len() % BLOCK_BYTES == 0 && (1..=MOST_SLOTS).contains(&slots);
     if pool_fits && records.len() == slots * RECORD_BYTES {
         Ok(slots)
     } else {
-        Err(Refusal::wrong_lengths())
+        Err(No::WrongLengths.plain())
     }
 }
 
@@ -171,7 +171,7 @@ fn check_records(pool: &[u8], records: &[u8]) -> Result<Vec<Record>, Refusal> {
     check_lengths(pool, records)?;
     let mut decoded = Vec::with_capacity(MOST_SLOTS);
     for (slot, bytes) in records.chunks_exact(RECORD_BYTES).enumerate() {
-        decoded.push(decode_record(bytes).ok_or(Refusal::broken_record(slot))?);
+        decoded.push(decode_record(bytes).ok_or(No::BrokenRecord.naming(slot))?);
     }
     Ok(decoded)
 }
@@ -182,14 +182,14 @@ fn check_root(records: &[Record], root: u64) -> Result<usize, Refusal> {
     if root < records.len() as u64 && records[root as usize].state == State::Root {
         Ok(root as usize)
     } else {
-        Err(Refusal::not_a_root())
+        Err(No::NotARoot.plain())
     }
 }
 
 /// 12: "write or resize on a blob that has a block at version 2^64 - 1".
 fn check_not_worn(records: &[Record], blob: &Blob) -> Result<(), Refusal> {
     if blob.blocks.iter().any(|slot| records[*slot].version == WORN_VERSION) {
-        return Err(Refusal::worn());
+        return Err(No::Worn.plain());
     }
     Ok(())
 }
@@ -197,7 +197,7 @@ fn check_not_worn(records: &[Record], blob: &Blob) -> Result<(), Refusal> {
 /// 10: "offset plus size exceeds the length", "no wrapped sum".
 fn check_range(blob: &Blob, offset: u64, size: usize) -> Result<(), Refusal> {
     if u128::from(offset) + size as u128 > u128::from(blob.length) {
-        return Err(Refusal::out_of_range());
+        return Err(No::OutOfRange.plain());
     }
     Ok(())
 }

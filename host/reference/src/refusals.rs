@@ -10,85 +10,56 @@ pub struct Refusal {
     pub slot: Option<u64>,
 }
 
-impl Refusal {
-    pub(crate) fn wrong_lengths() -> Refusal {
-        Refusal::without_slot(1)
+/// The rows of the table, each with its number.
+#[derive(Clone, Copy)]
+pub(crate) enum No {
+    WrongLengths = 1,
+    BrokenRecord = 2,
+    NotARoot = 3,
+    Spoiled = 4,
+    Moved = 5,
+    RolledBack = 6,
+    Ahead = 7,
+    WrongShape = 8,
+    Reintroduced = 9,
+    OutOfRange = 10,
+    Full = 11,
+    Worn = 12,
+}
+
+impl No {
+    /// The refusal that names this slot.
+    pub(crate) fn naming(self, slot: usize) -> Refusal {
+        Refusal { number: self as u64, slot: Some(slot as u64) }
     }
 
-    pub(crate) fn broken_record(slot: usize) -> Refusal {
-        Refusal::naming(2, slot)
-    }
-
-    pub(crate) fn not_a_root() -> Refusal {
-        Refusal::without_slot(3)
-    }
-
-    pub(crate) fn spoiled(slot: usize) -> Refusal {
-        Refusal::naming(4, slot)
-    }
-
-    pub(crate) fn moved(slot: usize) -> Refusal {
-        Refusal::naming(5, slot)
-    }
-
-    pub(crate) fn rolled_back(slot: usize) -> Refusal {
-        Refusal::naming(6, slot)
-    }
-
-    pub(crate) fn ahead(slot: usize) -> Refusal {
-        Refusal::naming(7, slot)
-    }
-
-    pub(crate) fn wrong_shape(slot: usize) -> Refusal {
-        Refusal::naming(8, slot)
-    }
-
-    pub(crate) fn reintroduced(slot: usize) -> Refusal {
-        Refusal::naming(9, slot)
-    }
-
-    pub(crate) fn out_of_range() -> Refusal {
-        Refusal::without_slot(10)
-    }
-
-    pub(crate) fn no_room() -> Refusal {
-        Refusal::without_slot(11)
-    }
-
-    pub(crate) fn worn() -> Refusal {
-        Refusal::without_slot(12)
-    }
-
-    fn naming(number: u64, slot: usize) -> Refusal {
-        Refusal { number, slot: Some(slot as u64) }
-    }
-
-    fn without_slot(number: u64) -> Refusal {
-        Refusal { number, slot: None }
-    }
-
-    fn meaning(&self) -> &'static str {
-        match self.number {
-            1 => "pool or records have a wrong length",
-            2 => "a record breaks its layout",
-            3 => "the named root is not a root",
-            4 => "a block is spoiled",
-            5 => "a block was moved",
-            6 => "a block was rolled back",
-            7 => "a block is ahead of its record",
-            8 => "a block has the wrong shape",
-            9 => "a block was reintroduced",
-            10 => "out of the blob's range",
-            11 => "not enough usable free slots",
-            12 => "a block of the blob is worn",
-            _ => "unknown",
-        }
+    /// The refusal that names no slot.
+    pub(crate) fn plain(self) -> Refusal {
+        Refusal { number: self as u64, slot: None }
     }
 }
 
+/// What each number means, from 0 on.
+const MEANINGS: [&str; 13] = [
+    "no refusal",
+    "pool or records have a wrong length",
+    "a record breaks its layout",
+    "the named root is not a root",
+    "a block is spoiled",
+    "a block was moved",
+    "a block was rolled back",
+    "a block is ahead of its record",
+    "a block has the wrong shape",
+    "a block was reintroduced",
+    "out of the blob's range",
+    "not enough usable free slots",
+    "a block of the blob is worn",
+];
+
 impl fmt::Display for Refusal {
     fn fmt(&self, out: &mut fmt::Formatter<'_>) -> fmt::Result {
-        write!(out, "refusal {}: {}", self.number, self.meaning())?;
+        let meaning = MEANINGS.get(self.number as usize).unwrap_or(&"unknown");
+        write!(out, "refusal {}: {}", self.number, meaning)?;
         match self.slot {
             Some(slot) => write!(out, " (slot {slot})"),
             None => Ok(()),

@@ -2,7 +2,7 @@
 
 use crate::bytes::{Content, State, FAN_OUT};
 use crate::cells::{take_lowest_usable, Cell};
-use crate::refusals::Refusal;
+use crate::refusals::{No, Refusal};
 use crate::shape::{leaf_count, leaf_share};
 
 /// "Resize, longer: the last leaf fills with zeros, then leaves are added one
@@ -53,9 +53,8 @@ fn hang_chain(cells: &mut [Cell], root: usize, leaf_bytes: u8) -> Result<(), Ref
         let content = &cells[**slot].content;
         !content.is_leaf() && usize::from(content.count) < FAN_OUT
     };
-    let Some(&lowest) = edge.iter().rev().find(has_room) else {
-        return Err(Refusal::no_room()); // never: the root has been raised in time
-    };
+    // There is one: the root has been raised in time.
+    let lowest = *edge.iter().rev().find(has_room).ok_or(No::Full.plain())?;
     let mut parent = lowest;
     for height in (0..cells[lowest].content.height).rev() {
         let mut content = Content::empty(height);
@@ -86,8 +85,9 @@ pub fn drop_last_leaf(cells: &mut [Cell], root: usize) {
 /// count and payload and the child goes."
 pub fn lower_root(cells: &mut [Cell], root: usize) {
     while cells[root].content.count == 1 {
-        let Some(child) = cells[root].content.last_child() else {
-            return; // a leaf of one byte has no child
+        let child = match cells[root].content.last_child() {
+            Some(child) => child,
+            None => return, // a leaf of one byte has no child
         };
         cells[root].content = cells[child].content;
         cells[child].goes();
@@ -117,5 +117,5 @@ fn right_edge(cells: &[Cell], root: usize) -> Vec<usize> {
 
 /// A new block of the blob. There is room, as the call has counted before.
 fn take_part(cells: &mut [Cell], content: Content) -> Result<usize, Refusal> {
-    take_lowest_usable(cells, State::Part, content).ok_or(Refusal::no_room())
+    take_lowest_usable(cells, State::Part, content).ok_or(No::Full.plain())
 }

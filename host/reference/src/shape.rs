@@ -4,7 +4,12 @@ use crate::bytes::{FAN_OUT, LEAF_BYTES};
 
 /// "Length L has n leaves: 1 if L = 0, else L / 48 rounded up."
 pub fn leaf_count(length: u64) -> u64 {
-    length.div_ceil(LEAF_BYTES as u64).max(1)
+    rounded_up(length, LEAF_BYTES as u64).max(1)
+}
+
+/// The quotient "rounded up".
+fn rounded_up(number: u64, by: u64) -> u64 {
+    number / by + u64::from(number % by != 0)
 }
 
 /// "The block total of n is 1 if n = 1, and otherwise n plus the block total
@@ -13,7 +18,7 @@ pub fn block_total(leaves: u64) -> u64 {
     if leaves <= 1 {
         return 1;
     }
-    leaves + block_total(leaves.div_ceil(FAN_OUT as u64))
+    leaves + block_total(rounded_up(leaves, FAN_OUT as u64))
 }
 
 /// How many of a blob's bytes lie in this leaf, counted from 0: 48 in all

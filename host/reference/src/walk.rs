@@ -2,7 +2,7 @@
 
 use crate::bytes::{block_bytes, decode_block, Block, Content, Record, State};
 use crate::bytes::{BLOCK_MARK, FAN_OUT, LEAF_BYTES};
-use crate::refusals::Refusal;
+use crate::refusals::{No, Refusal};
 
 /// "a root's [height is] at most 3"
 const HIGHEST_ROOT: u8 = 3;
@@ -81,10 +81,10 @@ fn closing_pass(pool: &[u8], records: &[Record], visited: &[bool]) -> Result<(),
     for (slot, record) in records.iter().enumerate() {
         let has_bytes = || block_bytes(pool, slot).iter().any(|byte| *byte != 0);
         if record.state == State::Free && has_bytes() {
-            return Err(Refusal::reintroduced(slot));
+            return Err(No::Reintroduced.naming(slot));
         }
         if record.state == State::Part && !visited[slot] {
-            return Err(Refusal::wrong_shape(slot));
+            return Err(No::WrongShape.naming(slot));
         }
     }
     Ok(())
@@ -142,13 +142,11 @@ impl Walk<'_> {
     /// in this call: 8, naming the parent. State free: 9, naming the child."
     fn check_link(&self, parent: usize, link: u32) -> Result<usize, Refusal> {
         let child = link as usize;
-        let Some(record) = self.records.get(child) else {
-            return Err(Refusal::wrong_shape(parent));
-        };
+        let record = self.records.get(child).ok_or(No::WrongShape.naming(parent))?;
         match record.state {
-            State::Root => Err(Refusal::wrong_shape(parent)),
-            _ if self.visited[child] => Err(Refusal::wrong_shape(parent)),
-            State::Free => Err(Refusal::reintroduced(child)),
+            State::Root => Err(No::WrongShape.naming(parent)),
+            _ if self.visited[child] => Err(No::WrongShape.naming(parent)),
+            State::Free => Err(No::Reintroduced.naming(child)),
             State::Part => Ok(child),
         }
     }
@@ -158,16 +156,16 @@ impl Walk<'_> {
 /// record: 6; above it: 7."
 fn check_identity(slot: usize, block: &Block, record: &Record) -> Result<(), Refusal> {
     if block.mark != BLOCK_MARK {
-        return Err(Refusal::spoiled(slot));
+        return Err(No::Spoiled.naming(slot));
     }
     if block.own_slot as usize != slot {
-        return Err(Refusal::moved(slot));
+        return Err(No::Moved.naming(slot));
     }
     if block.version < record.version {
-        return Err(Refusal::rolled_back(slot));
+        return Err(No::RolledBack.naming(slot));
     }
     if block.version > record.version {
-        return Err(Refusal::ahead(slot));
+        return Err(No::Ahead.naming(slot));
     }
     Ok(())
 }
@@ -179,6 +177,6 @@ fn check_shape(slot: usize, content: &Content, place: Place) -> Result<(), Refus
     if place.allows_height(content.height) && place.allows_count(content) && zeros_after() {
         Ok(())
     } else {
-        Err(Refusal::wrong_shape(slot))
+        Err(No::WrongShape.naming(slot))
     }
 }
