@@ -1,0 +1,153 @@
+//! The rows of the paper's "Numbers to try" that can be run, its whole example,
+//! and every refusal, through the crate.
+
+use tjornsaki::{audit, create, delete, length, read, resize, room, show, wipe, write, Refusal};
+
+type Store = (Vec<u8>, Vec<u8>);
+
+fn wiped(slots: usize) -> Store {
+    let (mut pool, mut records) = room(slots);
+    wipe(&mut pool, &mut records).unwrap();
+    (pool, records)
+}
+
+/// A wiped store with one blob of this length in slot 0.
+fn with_blob(slots: usize, size: u64) -> Store {
+    let (mut pool, mut records) = wiped(slots);
+    assert_eq!(create(&mut pool, &mut records), Ok(0));
+    resize(&mut pool, &mut records, 0, size).unwrap();
+    (pool, records)
+}
+
+fn no(number: u64, slot: Option<u64>) -> Refusal {
+    Refusal { number, slot }
+}
+
+/// State and version of each slot.
+fn states(records: &[u8]) -> Vec<(u8, u64)> {
+    let record = |bytes: &[u8]| (bytes[2], u64::from_le_bytes(bytes[4..].try_into().unwrap()));
+    records.chunks(12).map(record).collect()
+}
+
+#[test]
+fn the_whole_example() {
+    let (mut pool, mut records) = wiped(1);
+    assert_eq!(create(&mut pool, &mut records), Ok(0));
+    let mut block = vec![0x4C, 0x31, 0, 0, 0, 0, 0, 0, 1, 0, 0, 0, 0, 0, 0, 0];
+    block.resize(64, 0);
+    assert_eq!(pool, block);
+    assert_eq!(records, [0x52, 0x31, 2, 0, 1, 0, 0, 0, 0, 0, 0, 0]);
+}
+
+#[test]
+fn block_totals() {
+    let totals = [
+        (0, 1),
+        (48, 1),
+        (49, 3),
+        (576, 13),
+        (577, 16),
+        (6_912, 157),
+        (6_913, 161),
+        (44_976, 1_024),
+    ];
+    for (size, blocks) in totals {
+        let (pool, records) = with_blob(1_024, size);
+        assert_eq!(audit(&pool, &records), Ok(blocks), "length {}", size);
+        assert_eq!(length(&pool, &records, 0), Ok(size));
+    }
+}
+
+#[test]
+fn longer_shorter_and_used_again() {
+    let (mut pool, mut records) = with_blob(4, 0);
+    assert_eq!(states(&records), [(2, 1), (0, 0), (0, 0), (0, 0)]);
+    resize(&mut pool, &mut records, 0, 49).unwrap();
+    assert_eq!(states(&records), [(2, 2), (1, 1), (1, 1), (0, 0)]);
+    assert_eq!(pool[16..24], [1, 0, 0, 0, 2, 0, 0, 0]);
+    resize(&mut pool, &mut records, 0, 48).unwrap();
+    assert_eq!(states(&records), [(2, 3), (0, 1), (0, 1), (0, 0)]);
+    assert_eq!(pool[2..4], [0, 48]);
+    assert_eq!(create(&mut pool, &mut records), Ok(1));
+    assert_eq!(states(&records)[1], (2, 2));
+}
+
+#[test]
+fn no_room() {
+    let (mut pool, mut records) = with_blob(2, 0);
+    assert_eq!(resize(&mut pool, &mut records, 0, 49), Err(no(11, None)));
+    let (mut pool, mut records) = with_blob(1_024, 0);
+    assert_eq!(resize(&mut pool, &mut records, 0, 44_977), Err(no(11, None)));
+    assert_eq!(resize(&mut pool, &mut records, 0, u64::MAX), Err(no(11, None)));
+}
+
+#[test]
+fn no_wrapped_sum() {
+    let (mut pool, mut records) = with_blob(2, 10);
+    let mut out = [7; 2];
+    assert_eq!(read(&pool, &records, 0, u64::MAX, &mut out), Err(no(10, None)));
+    assert_eq!(out, [7; 2]);
+    assert_eq!(write(&mut pool, &mut records, 0, u64::MAX, &out), Err(no(10, None)));
+    assert_eq!(show(&pool, &records, 0, 1), Err(no(10, None)));
+    assert_eq!(read(&pool, &records, 0, 10, &mut []), Ok(()));
+}
+
+#[test]
+fn wrong_lengths() {
+    assert_eq!(wipe(&mut [], &mut []), Err(no(1, None)));
+    let (mut pool, mut records) = room(1_025);
+    assert_eq!(pool.len(), 65_600);
+    assert_eq!(wipe(&mut pool, &mut records), Err(no(1, None)));
+    assert_eq!(audit(&pool, &records), Err(no(1, None)));
+}
+
+#[test]
+fn broken_record_and_no_root() {
+    let (pool, mut records) = with_blob(4, 49);
+    assert_eq!(length(&pool, &records, 1), Err(no(3, None)));
+    assert_eq!(length(&pool, &records, 1 << 32), Err(no(3, None)));
+    records[12 * 3 + 2] = 3;
+    assert_eq!(length(&pool, &records, 0), Err(no(2, Some(3))));
+}
+
+/// An older copy in its own slot, a valid block in another slot, an old block
+/// in a free slot; a spoiled mark, a version ahead, a wrong shape.
+#[test]
+fn what_the_walk_finds() {
+    let (mut pool, mut records) = with_blob(4, 49);
+    let old = pool.clone();
+    write(&mut pool, &mut records, 0, 0, b"new").unwrap();
+    let new = pool.clone();
+    let mut spoilt = |at: usize, bytes: &[u8], number: u64, slot: u64| {
+        pool[at..at + bytes.len()].copy_from_slice(bytes);
+        assert_eq!(audit(&pool, &records), Err(no(number, Some(slot))));
+        pool.copy_from_slice(&new);
+    };
+    spoilt(64, &old[64..128], 6, 1);
+    spoilt(64, &old[128..192], 5, 1);
+    spoilt(192, &old[64..128], 9, 3);
+    spoilt(64, &[0], 4, 1);
+    spoilt(64 + 8, &[9], 7, 1);
+    spoilt(64 + 3, &[47], 8, 1);
+    delete(&mut pool, &mut records, 0).unwrap();
+    assert_eq!(audit(&pool, &records), Ok(0));
+}
+
+#[test]
+fn worn_blobs_are_read_and_deleted_but_not_changed() {
+    let (mut pool, mut records) = with_blob(2, 5);
+    pool[8..16].fill(0xFF);
+    records[4..12].fill(0xFF);
+    assert_eq!(write(&mut pool, &mut records, 0, 0, &[]), Err(no(12, None)));
+    assert_eq!(resize(&mut pool, &mut records, 0, 5), Err(no(12, None)));
+    assert_eq!(show(&pool, &records, 0, 0), Ok(&[0; 5][..]));
+    assert_eq!(delete(&mut pool, &mut records, 0), Ok(()));
+    assert_eq!(create(&mut pool, &mut records), Ok(1));
+}
+
+#[test]
+fn a_shown_leaf_is_a_part_of_the_pool() {
+    let (pool, records) = with_blob(4, 50);
+    let part = show(&pool, &records, 0, 1).unwrap();
+    assert!(std::ptr::eq(part, &pool[2 * 64 + 16..2 * 64 + 18]));
+}
