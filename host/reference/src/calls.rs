@@ -3,11 +3,12 @@
 //! (create, write, resize, delete, audit); 12; 10; 11." A refusal comes before
 //! the first byte is written.
 
-use crate::bytes::{decode_record, encode_record, Content, Record, State};
+use crate::bytes::{decode_block, decode_record, encode_record, Content, Record, State};
 use crate::bytes::{
     BLOCK_BYTES, LEAF_BYTES, MOST_SLOTS, PAYLOAD_START, RECORD_BYTES, WORN_VERSION,
 };
 use crate::cells::{count_usable, decode_cells, take_lowest_usable, write_out};
+use crate::faults::{planted, Fault};
 use crate::refusals::{No, Refusal};
 use crate::resize::{lengthen, shorten};
 use crate::shape::{block_total, leaf_count, leaf_share};
@@ -50,8 +51,11 @@ pub fn read(
     offset: u64,
     out: &mut [u8],
 ) -> Result<(), Refusal> {
+    if planted(Fault::RangeBeforeBlob) {
+        claimed_range(pool, records, root, offset, out.len())?;
+    }
     let blob = checked_blob(pool, records, root)?;
-    check_range(&blob, offset, out.len())?;
+    check_range(blob.length, offset, out.len())?;
     for touch in touched_leaves(&blob, offset, out.len()) {
         let start = touch.slot * BLOCK_BYTES + PAYLOAD_START + touch.from;
         out[touch.done..touch.done + touch.size].copy_from_slice(&pool[start..start + touch.size]);
@@ -69,7 +73,7 @@ pub fn write(
 ) -> Result<(), Refusal> {
     let (decoded, blob) = checked_pool_and_blob(pool, records, root)?;
     check_not_worn(&decoded, &blob)?;
-    check_range(&blob, offset, data.len())?;
+    check_range(blob.length, offset, data.len())?;
     let before = decode_cells(pool, &decoded);
     let mut after = before.clone();
     for touch in touched_leaves(&blob, offset, data.len()) {
@@ -188,16 +192,34 @@ fn check_root(records: &[Record], root: u64) -> Result<usize, Refusal> {
 
 /// 12: "write or resize on a blob that has a block at version 2^64 - 1".
 fn check_not_worn(records: &[Record], blob: &Blob) -> Result<(), Refusal> {
-    if blob.blocks.iter().any(|slot| records[*slot].version == WORN_VERSION) {
+    let is_worn = |slot: &usize| records[*slot].version == WORN_VERSION;
+    if blob.blocks.iter().any(is_worn) && !planted(Fault::WornBlobChanged) {
         return Err(No::Worn.plain());
     }
     Ok(())
 }
 
 /// 10: "offset plus size exceeds the length", "no wrapped sum".
-fn check_range(blob: &Blob, offset: u64, size: usize) -> Result<(), Refusal> {
-    if u128::from(offset) + size as u128 > u128::from(blob.length) {
+fn check_range(length: u64, offset: u64, size: usize) -> Result<(), Refusal> {
+    let free_of_charge = size == 0 && planted(Fault::NoBytesAnywhere);
+    if u128::from(offset) + size as u128 > u128::from(length) && !free_of_charge {
         return Err(No::OutOfRange.plain());
+    }
+    Ok(())
+}
+
+/// For the planted bug only: the range by the count that a lone leaf claims.
+fn claimed_range(
+    pool: &[u8],
+    records: &[u8],
+    root: u64,
+    offset: u64,
+    size: usize,
+) -> Result<(), Refusal> {
+    let root = check_root(&check_records(pool, records)?, root)?;
+    let claimed = decode_block(pool, root).content;
+    if claimed.is_leaf() {
+        check_range(u64::from(claimed.count), offset, size)?;
     }
     Ok(())
 }

@@ -4,6 +4,7 @@
 
 use crate::bytes::{clear_block, decode_block, encode_block, encode_record};
 use crate::bytes::{Content, Record, State, WORN_VERSION};
+use crate::faults::{planted, Fault};
 
 /// One slot. `version` is the record's version before the call.
 #[derive(Clone, Copy, Debug, PartialEq, Eq)]
@@ -16,7 +17,8 @@ pub struct Cell {
 impl Cell {
     /// "A free slot is usable if its record's version is below 2^64 - 1."
     pub fn is_usable(&self) -> bool {
-        self.state == State::Free && self.version < WORN_VERSION
+        let worn = self.version == WORN_VERSION && !planted(Fault::WornSlotUsable);
+        self.state == State::Free && !worn
     }
 
     /// The block goes: its slot is free and empty.
@@ -56,10 +58,10 @@ pub fn write_out(before: &[Cell], after: &[Cell], pool: &mut [u8], records: &mut
             (false, false) => {}
             (true, false) => leave_free(slot, new, pool, records),
             // "a newly taken slot has its record's old version plus one"
-            (false, true) => raise_version(slot, new, pool, records),
+            (false, true) => raise_version(slot, old, new, pool, records),
             // "A slot live before and after has version plus one if its height,
             // count or payload differs, and is otherwise unchanged in every byte."
-            (true, true) if old.content != new.content => raise_version(slot, new, pool, records),
+            (true, true) if differs(old, new) => raise_version(slot, old, new, pool, records),
             (true, true) => {}
         }
     }
@@ -73,8 +75,28 @@ fn leave_free(slot: usize, cell: &Cell, pool: &mut [u8], records: &mut [u8]) {
 
 /// "Block and record carry the same version." No worn slot comes here: taken
 /// slots are usable, and 12 refuses a change to a blob with a worn block.
-fn raise_version(slot: usize, cell: &Cell, pool: &mut [u8], records: &mut [u8]) {
-    let version = cell.version.saturating_add(1);
-    encode_block(pool, slot, version, &cell.content);
-    encode_record(records, slot, Record { state: cell.state, version });
+fn raise_version(slot: usize, old: &Cell, new: &Cell, pool: &mut [u8], records: &mut [u8]) {
+    let (in_block, in_record) = next_versions(old);
+    encode_block(pool, slot, in_block, &new.content);
+    encode_record(records, slot, Record { state: new.state, version: in_record });
+}
+
+/// "plus one", in block and record.
+fn next_versions(old: &Cell) -> (u64, u64) {
+    let next = old.version.saturating_add(1);
+    match old.state.is_live() {
+        false if planted(Fault::ReusedSlotAtVersionOne) => (1, 1),
+        true if planted(Fault::VersionNotRaised) => (old.version, old.version),
+        true if planted(Fault::RecordRaisedAlone) => (old.version, next),
+        _ => (next, next),
+    }
+}
+
+/// "its height, count or payload differs"
+fn differs(old: &Cell, new: &Cell) -> bool {
+    let mut old = old.content;
+    if planted(Fault::HeightNotCompared) {
+        old.height = new.content.height;
+    }
+    old != new.content
 }

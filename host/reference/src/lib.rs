@@ -12,11 +12,13 @@
 //! * `cells`: the model that changing calls work on, and the version rule
 //! * `resize`: longer and shorter, leaf by leaf
 //! * `calls`: the nine calls
+//! * `faults`: bugs that can be planted for trying a comparison
 #![forbid(unsafe_code)]
 
 mod bytes;
 mod calls;
 mod cells;
+pub mod faults;
 mod refusals;
 mod resize;
 mod shape;

@@ -2,12 +2,14 @@
 
 use crate::bytes::{Content, State, FAN_OUT};
 use crate::cells::{take_lowest_usable, Cell};
+use crate::faults::{planted, Fault};
 use crate::refusals::{No, Refusal};
 use crate::shape::{leaf_count, leaf_share};
 
 /// "Resize, longer: the last leaf fills with zeros, then leaves are added one
 /// by one."
 pub fn lengthen(cells: &mut [Cell], root: usize, old: u64, new: u64) -> Result<(), Refusal> {
+    let mut root = root;
     let mut leaves = leaf_count(old);
     fit_last_leaf(cells, root, leaf_share(new, leaves - 1));
     while leaves < leaf_count(new) {
@@ -15,7 +17,7 @@ pub fn lengthen(cells: &mut [Cell], root: usize, old: u64, new: u64) -> Result<(
         // "when n is a power of 12 (1 included) and equals 12^d for the
         // present height d"
         if leaves == (FAN_OUT as u64).pow(u32::from(height)) {
-            raise_root(cells, root)?;
+            root = raise_root(cells, root)?;
         }
         hang_chain(cells, root, leaf_share(new, leaves))?;
         leaves += 1;
@@ -35,12 +37,19 @@ pub fn shorten(cells: &mut [Cell], root: usize, old: u64, new: u64) {
 
 /// "first the lowest usable free slot takes the old root's height, count and
 /// payload, and the root becomes height d + 1 with that one child."
-fn raise_root(cells: &mut [Cell], root: usize) -> Result<(), Refusal> {
+/// Answers the root's slot, which stays.
+fn raise_root(cells: &mut [Cell], root: usize) -> Result<usize, Refusal> {
     let old_root = cells[root].content;
-    let child = take_part(cells, old_root)?;
+    let taken = take_part(cells, old_root)?;
+    let (root, child) = match planted(Fault::RootMovesWhenTaller) {
+        false => (root, taken),
+        true => (taken, root),
+    };
+    cells[root].state = State::Root;
+    cells[child].state = State::Part;
     cells[root].content = Content::empty(old_root.height + 1);
     cells[root].content.append_child(child);
-    Ok(())
+    Ok(root)
 }
 
 /// "Then at the lowest block of the right edge, inner, with fewer than 12
@@ -84,7 +93,7 @@ pub fn drop_last_leaf(cells: &mut [Cell], root: usize) {
 /// "While the root has one child only, it takes over that child's height,
 /// count and payload and the child goes."
 pub fn lower_root(cells: &mut [Cell], root: usize) {
-    while cells[root].content.count == 1 {
+    while cells[root].content.count == 1 && !planted(Fault::InnerRootWithOneChild) {
         let child = match cells[root].content.last_child() {
             Some(child) => child,
             None => return, // a leaf of one byte has no child
@@ -100,7 +109,9 @@ pub fn fit_last_leaf(cells: &mut [Cell], root: usize, bytes: u8) {
     let edge = right_edge(cells, root);
     let leaf = &mut cells[edge[edge.len() - 1]].content;
     let kept = usize::from(leaf.count.min(bytes));
-    leaf.payload[kept..].fill(0);
+    if !planted(Fault::StaleBytesAfterCut) {
+        leaf.payload[kept..].fill(0);
+    }
     leaf.count = bytes;
 }
 

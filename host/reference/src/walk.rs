@@ -2,6 +2,7 @@
 
 use crate::bytes::{block_bytes, decode_block, Block, Content, Record, State};
 use crate::bytes::{BLOCK_MARK, FAN_OUT, LEAF_BYTES};
+use crate::faults::{planted, Fault};
 use crate::refusals::{No, Refusal};
 
 /// "a root's [height is] at most 3"
@@ -68,8 +69,14 @@ pub fn pool_check(pool: &[u8], records: &[Record]) -> Result<Vec<Blob>, Refusal>
     let mut blobs = Vec::new();
     for (slot, record) in records.iter().enumerate() {
         if record.state == State::Root {
-            blobs.push(walk_from(pool, records, &mut visited, slot)?);
+            blobs.push(match planted(Fault::VisitedNotShared) {
+                false => walk_from(pool, records, &mut visited, slot)?,
+                true => walk_apart(pool, records, &mut visited, slot)?,
+            });
         }
+    }
+    if planted(Fault::NoClosingPass) {
+        return Ok(blobs);
     }
     closing_pass(pool, records, &visited)?;
     Ok(blobs)
@@ -102,6 +109,18 @@ fn walk_from(
     Ok(walk.found)
 }
 
+/// For the planted bug only: a walk that does not see what others have visited.
+fn walk_apart(
+    pool: &[u8],
+    records: &[Record],
+    visited: &mut [bool],
+    root: usize,
+) -> Result<Blob, Refusal> {
+    let blob = blob_check(pool, records, root)?;
+    blob.blocks.iter().for_each(|slot| visited[*slot] = true);
+    Ok(blob)
+}
+
 struct Walk<'a> {
     pool: &'a [u8],
     records: &'a [Record],
@@ -129,6 +148,9 @@ impl Walk<'_> {
     /// "to visit a row is to visit blocks one height lower". Each child's
     /// check 1 belongs to its own visit (reading 2).
     fn visit_row(&mut self, parent: usize, row: &Content, edge: bool) -> Result<(), Refusal> {
+        if planted(Fault::RowCheckedFirst) {
+            row.children().try_for_each(|link| self.check_link(parent, link).map(drop))?;
+        }
         for (index, link) in row.children().enumerate() {
             let child = self.check_link(parent, link)?;
             // "so is the last child of an inner block on the right edge"
