@@ -1,0 +1,139 @@
+//! Draws the next call: mostly a sensible one, now and then one with arguments
+//! at or far beyond the edge.
+
+use crate::call::Call;
+use crate::chance::Chance;
+use crate::layout::{blocks_of, View};
+
+/// How likely each kind of call is, in the order of `KINDS`.
+const WEIGHTS: [u64; 9] = [1, 24, 14, 30, 50, 70, 16, 20, 14];
+
+/// Leaf counts about which the shape of a blob changes.
+const LEAF_EDGES: [u64; 16] =
+    [1, 2, 3, 11, 12, 13, 24, 132, 143, 144, 145, 156, 157, 288, 936, 937];
+
+/// How many slots the pool of a run has: 1 to 1,024, mostly few.
+pub fn draw_slots(chance: &mut Chance) -> usize {
+    match chance.weighted(&[20, 45, 25, 7, 3]) {
+        0 => 1 + chance.place(4),
+        1 => 5 + chance.place(28),
+        2 => 33 + chance.place(168),
+        3 => 201 + chance.place(824),
+        _ => 1_024,
+    }
+}
+
+pub fn draw_call(chance: &mut Chance, view: View) -> Call {
+    let root = draw_root(chance, view);
+    match chance.weighted(&WEIGHTS) {
+        0 => Call::Wipe,
+        1 => Call::Create,
+        2 => Call::Length { root },
+        3 => {
+            let (offset, size) = draw_range(chance, length_now(view, root));
+            Call::Read { root, offset, size }
+        }
+        4 => {
+            let (offset, size) = draw_range(chance, length_now(view, root));
+            Call::Write { root, offset, size, fill: draw_fill(chance) }
+        }
+        5 => Call::Resize { root, length: draw_length(chance, view, root) },
+        6 => Call::Delete { root },
+        7 => Call::Show { root, leaf: draw_leaf(chance, length_now(view, root)) },
+        _ => Call::Audit,
+    }
+}
+
+fn draw_root(chance: &mut Chance, view: View) -> u64 {
+    let slots = view.slots() as u64;
+    match (chance.below(24), chance.pick_any(&view.roots())) {
+        (0, _) => chance.below(slots),
+        (1, _) => slots + chance.below(2),
+        (2, Some(root)) => root as u64 + chance.pick(&[1 << 32, 1 << 63, slots]),
+        (3, _) => chance.pick(&[u64::MAX, u64::MAX - 1, chance_free(slots)]),
+        (_, Some(root)) => root as u64,
+        (_, None) => chance.below(slots + 1),
+    }
+}
+
+/// A number far from every slot that is no power of two.
+fn chance_free(slots: u64) -> u64 {
+    slots.wrapping_mul(0x0123_4567_89AB_CDEF)
+}
+
+/// The blob's length now, or 0 where there is none to be had.
+fn length_now(view: View, root: u64) -> u64 {
+    reference::length(view.pool, view.records, root).unwrap_or(0)
+}
+
+/// Offset and size of a read or a write.
+fn draw_range(chance: &mut Chance, length: u64) -> (u64, usize) {
+    let offset = chance.below(length + 1);
+    let left = length - offset;
+    match chance.below(20) {
+        0..=9 => (offset, chance.below(left.min(200) + 1) as usize),
+        10..=12 => (offset, chance.below(left + 1) as usize),
+        13 | 14 => (0, length as usize),
+        15 => (length + chance.below(2), 0),
+        16 => (offset, left as usize + 1),
+        17 => (u64::MAX - chance.below(3), chance.place(5)),
+        18 => (chance.number(), chance.place(100)),
+        _ => (offset, 0),
+    }
+}
+
+/// Few bytes over and over, so that writes often change nothing.
+fn draw_fill(chance: &mut Chance) -> u64 {
+    match chance.below(6) {
+        0 => 0,
+        1 => 1,
+        2 => 0xFF,
+        _ => 256 + chance.below(1 << 20),
+    }
+}
+
+fn draw_length(chance: &mut Chance, view: View, root: u64) -> u64 {
+    let now = length_now(view, root);
+    match chance.below(20) {
+        0..=2 => chance.below(120),
+        3..=6 => (now + chance.below(110)).saturating_sub(55),
+        7..=11 => (48 * draw_edge(chance, view) + chance.below(3)).saturating_sub(1),
+        12..=14 => chance.below(30 * view.slots() as u64 + 100),
+        15 => now / 2,
+        16 => 0,
+        17 | 18 => most_that_fits(view, now) + chance.below(2),
+        _ => chance.pick(&[u64::MAX, u64::MAX - 47, 1 << 63, 1 << 32, 44_976, 44_977]),
+    }
+}
+
+/// A leaf count at an edge that the pool has room for, as a rule.
+fn draw_edge(chance: &mut Chance, view: View) -> u64 {
+    let most = view.slots() as u64;
+    let fitting = LEAF_EDGES.iter().take_while(|leaves| **leaves < most).count();
+    chance.pick(&LEAF_EDGES[..(fitting + 1).min(LEAF_EDGES.len())])
+}
+
+/// The greatest length for which the blob's blocks and the free slots do.
+fn most_that_fits(view: View, now: u64) -> u64 {
+    let blocks = blocks_of(now) + view.free().len() as u64;
+    let (mut fits, mut beyond) = (0, 1_025);
+    while beyond - fits > 1 {
+        let middle = (fits + beyond) / 2;
+        if blocks_of(48 * middle) <= blocks {
+            fits = middle;
+        } else {
+            beyond = middle;
+        }
+    }
+    48 * fits
+}
+
+fn draw_leaf(chance: &mut Chance, length: u64) -> u64 {
+    let leaves = (length / 48 + u64::from(length % 48 != 0)).max(1);
+    match chance.below(12) {
+        0 => leaves,
+        1 => leaves - 1,
+        2 => chance.pick(&[u64::MAX, 1 << 32, leaves + 1]),
+        _ => chance.below(leaves),
+    }
+}

@@ -1,0 +1,27 @@
+//! Compares the proved library with the reference: the same calls over the same
+//! bytes, sound and spoilt, and after every call every answer and every byte of
+//! pool, records and output.
+//!
+//! * `call`, `bench`, `sides`, `guarded`: making a call on both sides
+//! * `draw`, `hostile`, `run`: runs by chance
+//! * `book`, `history`: histories of calls, and the third demand over them
+//! * `reduce`: a short run for a difference
+//! * `tally`: what was met
+//! * `campaign`, `options`: many runs, as the command line asks
+#![forbid(unsafe_code)]
+
+pub mod bench;
+pub mod book;
+pub mod call;
+pub mod campaign;
+pub mod chance;
+pub mod draw;
+pub mod guarded;
+pub mod history;
+pub mod hostile;
+pub mod layout;
+pub mod options;
+pub mod reduce;
+pub mod run;
+pub mod sides;
+pub mod tally;

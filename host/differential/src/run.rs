@@ -1,0 +1,160 @@
+//! A run by chance: stretches of calls, and raids on the store between them.
+
+use crate::bench::{Bench, Step};
+use crate::call::Call;
+use crate::chance::Chance;
+use crate::draw::{draw_call, draw_slots};
+use crate::hostile::{OldBlock, Scene, RAIDS};
+use crate::layout::{BLOCK, RECORD};
+use crate::tally::Tally;
+use tjornsaki::raw::Answer;
+
+/// A run on which the two sides differ, or an answer breaks a promise.
+#[derive(Clone, Debug)]
+pub struct Finding {
+    pub slots: usize,
+    pub steps: Vec<Step>,
+    /// What is wrong after the last step.
+    pub words: String,
+    /// Whether the two sides differ, so that the steps alone show it.
+    pub is_difference: bool,
+}
+
+/// How many old blocks a run remembers.
+const PAST_SIZE: usize = 64;
+
+pub struct Run<'a> {
+    pub bench: Bench,
+    pub chance: Chance,
+    pub tally: &'a mut Tally,
+    slots: usize,
+    steps: Vec<Step>,
+    past: Vec<OldBlock>,
+}
+
+/// Plays the run of this seed.
+pub fn play(seed: u64, tally: &mut Tally) -> Result<(), Finding> {
+    let mut chance = Chance::new(seed);
+    let slots = draw_slots(&mut chance);
+    let mut run = Run::new(slots, chance, tally);
+    let most = 60 + run.chance.below(300);
+    if run.chance.one_in(4) {
+        run.some_calls(2)?; // before there is a store
+    }
+    run.step(Step::Call(Call::Wipe))?;
+    while run.bench.calls < most {
+        run.some_calls(24)?;
+        match run.chance.below(8) {
+            0 => run.calls_over_lengths()?,
+            _ => run.raid()?,
+        }
+    }
+    run.tally.runs += 1;
+    Ok(())
+}
+
+impl<'a> Run<'a> {
+    pub fn new(slots: usize, chance: Chance, tally: &'a mut Tally) -> Run<'a> {
+        let bench = Bench::new(slots);
+        Run { bench, chance, tally, slots, steps: Vec::new(), past: Vec::new() }
+    }
+
+    pub fn step(&mut self, step: Step) -> Result<Option<Answer>, Finding> {
+        self.steps.push(step);
+        let step = &self.steps[self.steps.len() - 1];
+        let answer = match self.bench.step(step) {
+            Ok(answer) => answer,
+            Err(words) => return Err(self.finding(words, true)),
+        };
+        if let (Step::Call(call) | Step::CallOverLengths { call, .. }, Some(answer)) =
+            (step, &answer)
+        {
+            self.tally.count_answer(call, answer);
+        }
+        Ok(answer)
+    }
+
+    pub fn steps(&self) -> &[Step] {
+        &self.steps
+    }
+
+    pub fn finding(&self, words: String, is_difference: bool) -> Finding {
+        Finding { slots: self.slots, steps: self.steps.clone(), words, is_difference }
+    }
+
+    /// Up to this many calls, drawn by what the store holds.
+    fn some_calls(&mut self, most: u64) -> Result<(), Finding> {
+        for _ in 0..1 + self.chance.below(most) {
+            self.remember_a_block();
+            let call = draw_call(&mut self.chance, self.bench.view());
+            self.step(Step::Call(call))?;
+        }
+        Ok(())
+    }
+
+    /// Keeps a block of the present store, to bring it back later.
+    fn remember_a_block(&mut self) {
+        let view = self.bench.view();
+        let slot = self.chance.place(view.slots());
+        let mut bytes = [0; BLOCK];
+        bytes.copy_from_slice(view.block(slot));
+        if bytes == [0; BLOCK] {
+            return;
+        }
+        let old = OldBlock { slot, bytes };
+        if self.past.len() < PAST_SIZE {
+            self.past.push(old);
+        } else {
+            self.past[self.chance.place(PAST_SIZE)] = old;
+        }
+    }
+
+    /// Spoils the store in one to three ways, makes calls, and as a rule
+    /// brings the store back.
+    fn raid(&mut self) -> Result<(), Finding> {
+        self.step(Step::Keep)?;
+        for _ in 0..self.chance.pick(&[1, 1, 1, 1, 2, 3]) {
+            let way = self.chance.place(RAIDS.len());
+            let scene = Scene { view: self.bench.view(), past: &self.past };
+            if let Some(steps) = RAIDS[way].1(&mut self.chance, &scene) {
+                self.tally.count_raid(way);
+                for step in steps {
+                    self.step(step)?;
+                }
+            }
+        }
+        self.some_calls(10)?;
+        let answer = self.step(Step::Call(Call::Audit))?;
+        let is_sound = answer.map_or(false, |answer| answer[0] == 0);
+        if !is_sound || self.chance.one_in(2) {
+            self.step(Step::GoBack)?;
+        }
+        Ok(())
+    }
+
+    /// Calls over slices that do not fit, or that fit a smaller store.
+    fn calls_over_lengths(&mut self) -> Result<(), Finding> {
+        for _ in 0..4 {
+            let call = draw_call(&mut self.chance, self.bench.view());
+            let (pool, records) = self.draw_lengths();
+            self.step(Step::CallOverLengths { call, pool, records })?;
+        }
+        Ok(())
+    }
+
+    fn draw_lengths(&mut self) -> (usize, usize) {
+        let (pool, records) = (self.slots * BLOCK, self.slots * RECORD);
+        let fewer = self.chance.place(self.slots + 1);
+        match self.chance.below(10) {
+            0 => (0, 0),
+            1 => (0, records),
+            2 => (pool, 0),
+            3 => (pool + self.chance.pick(&[1, 63, 64]), records),
+            4 => (pool - self.chance.pick(&[1, 63, 64]), records),
+            5 => (pool, records + self.chance.pick(&[1, 11, 12])),
+            6 => (pool, records - self.chance.pick(&[1, 11, 12])),
+            7 => (65_600, 12_300),
+            _ => (fewer * BLOCK, fewer * RECORD),
+        }
+    }
+}

@@ -1,0 +1,99 @@
+//! What was met: answers by call and number, and ways of spoiling.
+
+use crate::call::{Call, KINDS};
+use crate::hostile::RAIDS;
+use tjornsaki::raw::Answer;
+
+/// Numbers of an answer: 0 for done, 1 to 12 for refused.
+const NUMBERS: usize = 13;
+
+#[derive(Clone, Default)]
+pub struct Tally {
+    pub calls: u64,
+    pub runs: u64,
+    answers: [[u64; NUMBERS]; KINDS.len()],
+    raids: [u64; RAIDS.len()],
+    /// Demand three: stores tried, and answers by number.
+    pub mixed_stores: u64,
+    mixed_answers: [u64; NUMBERS],
+}
+
+impl Tally {
+    pub fn count_answer(&mut self, call: &Call, answer: &Answer) {
+        self.calls += 1;
+        self.answers[call.kind()][(answer[0] as usize).min(NUMBERS - 1)] += 1;
+    }
+
+    pub fn count_raid(&mut self, raid: usize) {
+        self.raids[raid] += 1;
+    }
+
+    pub fn count_mixed(&mut self, answer: &Answer) {
+        self.mixed_answers[(answer[0] as usize).min(NUMBERS - 1)] += 1;
+    }
+
+    pub fn add(&mut self, other: &Tally) {
+        self.calls += other.calls;
+        self.runs += other.runs;
+        self.mixed_stores += other.mixed_stores;
+        for (row, more) in self.answers.iter_mut().zip(&other.answers) {
+            add_rows(row, more);
+        }
+        add_rows(&mut self.raids, &other.raids);
+        add_rows(&mut self.mixed_answers, &other.mixed_answers);
+    }
+
+    /// What should have been met and was not.
+    pub fn missing(&self) -> Vec<String> {
+        let mut missing = Vec::new();
+        for (kind, row) in KINDS.iter().zip(&self.answers) {
+            if row[0] == 0 {
+                missing.push(format!("{} done", kind.name));
+            }
+            let unmet = kind.refusals.iter().filter(|number| row[**number as usize] == 0);
+            missing.extend(unmet.map(|number| format!("{} refused {number}", kind.name)));
+        }
+        let unmet = RAIDS.iter().zip(&self.raids).filter(|(_, count)| **count == 0);
+        missing.extend(unmet.map(|((name, _), _)| name.to_string()));
+        let of_demand_three = [0, 4, 5, 6, 7].iter().filter(|n| self.mixed_answers[**n] == 0);
+        missing.extend(of_demand_three.map(|number| format!("demand three: answer {number}")));
+        missing
+    }
+
+    /// Refusals of a kind of call that it cannot give.
+    pub fn unexpected(&self) -> Vec<String> {
+        let mut unexpected = Vec::new();
+        for (kind, row) in KINDS.iter().zip(&self.answers) {
+            let others = (1..NUMBERS as u64).filter(|number| !kind.refusals.contains(number));
+            let met = others.filter(|number| row[*number as usize] > 0);
+            unexpected.extend(met.map(|number| format!("{} refused {number}", kind.name)));
+        }
+        unexpected
+    }
+
+    pub fn print(&self) {
+        println!("answers by call: done, and each refusal (. cannot be given)");
+        print!("{:>8} {:>9}", "", "done");
+        (1..NUMBERS).for_each(|number| print!(" {number:>8}"));
+        println!();
+        for (kind, row) in KINDS.iter().zip(&self.answers) {
+            print!("{:>8} {:>9}", kind.name, row[0]);
+            for (number, count) in row.iter().enumerate().skip(1) {
+                match kind.refusals.contains(&(number as u64)) || *count > 0 {
+                    true => print!(" {count:>8}"),
+                    false => print!(" {:>8}", "."),
+                }
+            }
+            println!();
+        }
+        println!("stores spoilt or shifted");
+        RAIDS.iter().zip(&self.raids).for_each(|((name, _), count)| println!("{count:>9} {name}"));
+        println!("demand three: {} stores of old blocks; answers by number", self.mixed_stores);
+        let answers = self.mixed_answers.iter().enumerate().filter(|(_, count)| **count > 0);
+        answers.for_each(|(number, count)| println!("{count:>9} of {number}"));
+    }
+}
+
+fn add_rows(row: &mut [u64], more: &[u64]) {
+    row.iter_mut().zip(more).for_each(|(count, more)| *count += more);
+}
