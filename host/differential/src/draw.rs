@@ -25,6 +25,9 @@ pub fn draw_slots(chance: &mut Chance) -> usize {
 
 pub fn draw_call(chance: &mut Chance, view: View) -> Call {
     let root = draw_root(chance, view);
+    if view.roots().is_empty() && chance.one_in(2) {
+        return Call::Create;
+    }
     match chance.weighted(&WEIGHTS) {
         0 => Call::Wipe,
         1 => Call::Create,
@@ -50,15 +53,10 @@ fn draw_root(chance: &mut Chance, view: View) -> u64 {
         (0, _) => chance.below(slots),
         (1, _) => slots + chance.below(2),
         (2, Some(root)) => root as u64 + chance.pick(&[1 << 32, 1 << 63, slots]),
-        (3, _) => chance.pick(&[u64::MAX, u64::MAX - 1, chance_free(slots)]),
+        (3, _) => [u64::MAX, u64::MAX - 1, chance.number()][chance.place(3)],
         (_, Some(root)) => root as u64,
         (_, None) => chance.below(slots + 1),
     }
-}
-
-/// A number far from every slot that is no power of two.
-fn chance_free(slots: u64) -> u64 {
-    slots.wrapping_mul(0x0123_4567_89AB_CDEF)
 }
 
 /// The blob's length now, or 0 where there is none to be had.

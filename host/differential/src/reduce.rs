@@ -97,10 +97,15 @@ fn smaller_calls(call: &Call) -> Vec<Call> {
     }
 }
 
-/// One of the two numbers made smaller: nothing, half, or one less.
+/// One of the two numbers made smaller.
 fn shrunk(one: u64, other: u64) -> impl Iterator<Item = (u64, u64)> {
-    let below = |number: u64| [0, number / 2, number.saturating_sub(1)];
-    let first = below(one).map(|less| (less, other));
-    let second = below(other).map(|less| (one, less));
-    first.into_iter().chain(second).filter(move |pair| *pair != (one, other))
+    let first = below(one).map(move |less| (less, other));
+    let second = below(other).map(move |less| (one, less));
+    first.chain(second)
+}
+
+/// Nothing, half of it, three quarters, and so on up to one less.
+fn below(number: u64) -> impl Iterator<Item = u64> {
+    let takes = std::iter::successors(Some(number), |take| Some(take / 2));
+    takes.take_while(|take| *take > 0).map(move |take| number - take)
 }
