@@ -4,7 +4,7 @@
 use crate::bench::{Area, Step};
 use crate::call::Call;
 use crate::chance::Chance;
-use crate::layout::{View, BLOCK, FREE, PAYLOAD, RECORD, ROOT};
+use crate::layout::{View, BLOCK, FREE, PART, PAYLOAD, RECORD, ROOT};
 
 /// A block that lay in this slot at some time.
 #[derive(Clone, Copy)]
@@ -22,7 +22,7 @@ pub struct Scene<'a> {
 type Raid = fn(&mut Chance, &Scene) -> Option<Vec<Step>>;
 
 /// All ways, by name.
-pub const RAIDS: [(&str, Raid); 20] = [
+pub const RAIDS: [(&str, Raid); 21] = [
     ("a bit of the pool flipped", flip_pool_bit),
     ("a bit of the records flipped", flip_record_bit),
     ("a block copied to another slot", copy_block),
@@ -40,6 +40,7 @@ pub const RAIDS: [(&str, Raid); 20] = [
     ("a block's version", block_version),
     ("a record's version", record_version),
     ("a record's state", record_state),
+    ("a part's record freed", free_part),
     ("versions at the end (sound)", worn_versions),
     ("slots exchanged (sound)", exchange_slots),
     ("a row that reads as bytes (sound)", row_reads_as_bytes),
@@ -178,6 +179,13 @@ fn record_version(chance: &mut Chance, scene: &Scene) -> Option<Vec<Step>> {
 fn record_state(chance: &mut Chance, scene: &Scene) -> Option<Vec<Step>> {
     let slot = chance.place(scene.view.slots());
     Some(vec![in_record(slot, 2, &[chance.pick(&[0, 1, 2, 3, 255])])])
+}
+
+/// The walk then meets a child that is free.
+fn free_part(chance: &mut Chance, scene: &Scene) -> Option<Vec<Step>> {
+    let view = scene.view;
+    let slot = chance.pick_any(&view.slots_where(|slot| view.state(slot) == PART))?;
+    Some(vec![in_record(slot, 2, &[FREE])])
 }
 
 /// Block and record of a slot at or next to the last version.

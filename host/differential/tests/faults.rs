@@ -34,7 +34,7 @@ fn every_planted_bug_is_found() {
         let start = Instant::now();
         let (found, calls) = find(Some(fault), MOST_CALLS);
         let finding = found.unwrap_or_else(|| panic!("{fault:?} was not found in {calls} calls"));
-        let short = reduce(finding, Duration::from_secs(10));
+        let short = reduce(finding, Duration::from_secs(60));
         let (steps, time) = (short.steps.len(), start.elapsed().as_secs_f64());
         println!("{fault:?}: found in {calls} calls, {steps} steps, {time:.2} s: {}", short.words);
         short.steps.iter().for_each(|step| println!("    {step:?}"));
