@@ -16,7 +16,10 @@ fn main() {
         eprintln!(
             "`rt staticlib export` builds it in target/staticlib; host/build does so before it"
         );
-        eprintln!("runs cargo. If it lies elsewhere, let {} name its folder.", OVERRIDE);
+        eprintln!(
+            "runs cargo. If it lies elsewhere, let {} name its folder by its whole path.",
+            OVERRIDE
+        );
         std::process::exit(1);
     }
     println!("cargo:rustc-link-search=native={}", folder.display());

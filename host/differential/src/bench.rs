@@ -5,6 +5,7 @@ use crate::call::Call;
 use crate::guarded::{Guarded, GuardedAnswer};
 use crate::layout::{exchange, View, BLOCK, RECORD};
 use crate::sides::{by_crate, by_library, by_reference, Lent};
+use std::fmt;
 use tjornsaki::raw::Answer;
 
 /// Which of the two lent slices.
@@ -40,6 +41,25 @@ pub enum Step {
     Keep,
     /// Goes back to the store last remembered.
     GoBack,
+}
+
+impl fmt::Display for Step {
+    fn fmt(&self, out: &mut fmt::Formatter<'_>) -> fmt::Result {
+        match self {
+            Step::Call(call) => write!(out, "{call:?}"),
+            Step::CallOverLengths { call, pool, records } => {
+                write!(out, "{call:?}, over {pool} bytes of pool and {records} of records")
+            }
+            Step::Patch { area, at, bytes } => {
+                let size = if *area == Area::Pool { BLOCK } else { RECORD };
+                write!(out, "into the {area:?} at slot {} byte {}:", at / size, at % size)?;
+                bytes.iter().try_for_each(|byte| write!(out, " {byte:02X}"))
+            }
+            Step::ExchangeSlots { one, other } => write!(out, "slots {one} and {other} exchanged"),
+            Step::Keep => write!(out, "the store is kept"),
+            Step::GoBack => write!(out, "back to the store kept last"),
+        }
+    }
 }
 
 /// What stands in lent output before a call.

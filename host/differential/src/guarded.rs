@@ -66,3 +66,31 @@ impl Default for GuardedAnswer {
         GuardedAnswer::new()
     }
 }
+
+#[cfg(test)]
+mod tests {
+    use super::*;
+
+    #[test]
+    fn a_changed_guard_is_seen() {
+        let mut buffer = Guarded::new(&[1, 2, 3]);
+        assert_eq!(buffer.inside(), [1, 2, 3]);
+        buffer.inside_mut().fill(9);
+        assert!(buffer.is_intact());
+        for at in [0, GUARD_SIZE - 1, GUARD_SIZE + 3, 2 * GUARD_SIZE + 2] {
+            let mut changed = buffer.clone();
+            changed.bytes[at] = 0;
+            assert!(!changed.is_intact());
+        }
+        assert!(Guarded::new(&[]).is_intact());
+    }
+
+    #[test]
+    fn a_changed_guard_of_an_answer_is_seen() {
+        let mut answer = GuardedAnswer::new();
+        answer.inside_mut().fill(0);
+        assert!(answer.is_intact());
+        answer.numbers[2][0] = 0;
+        assert!(!answer.is_intact());
+    }
+}

@@ -80,6 +80,6 @@ fn print_finding(seed: u64, run: u64, finding: Finding) {
     if skipped > 0 {
         println!("  .. ({skipped} steps before)");
     }
-    short.steps.iter().skip(skipped).for_each(|step| println!("  {step:?}"));
+    short.steps.iter().skip(skipped).for_each(|step| println!("  {step}"));
     println!("then: {}", short.words);
 }

@@ -76,6 +76,11 @@ fn make_smaller(best: &mut Finding, until: Instant) {
 fn smaller(step: &Step) -> Vec<Step> {
     match step {
         Step::Call(call) => smaller_calls(call).into_iter().map(Step::Call).collect(),
+        Step::Patch { area, at, bytes } if bytes.len() > 1 => {
+            let (first, second) = bytes.split_at(bytes.len() / 2);
+            let half = |at, bytes: &[u8]| Step::Patch { area: *area, at, bytes: bytes.to_vec() };
+            vec![half(*at, first), half(*at + first.len(), second)]
+        }
         _ => Vec::new(),
     }
 }

@@ -55,7 +55,8 @@ impl Tally {
         }
         let unmet = RAIDS.iter().zip(&self.raids).filter(|(_, count)| **count == 0);
         missing.extend(unmet.map(|((name, _), _)| name.to_string()));
-        let of_demand_three = [0, 4, 5, 6, 7].iter().filter(|n| self.mixed_answers[**n] == 0);
+        let of_demand_three =
+            [0, 4, 5, 6, 7, 9, 10].iter().filter(|n| self.mixed_answers[**n] == 0);
         missing.extend(of_demand_three.map(|number| format!("demand three: answer {number}")));
         missing
     }

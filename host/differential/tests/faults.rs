@@ -37,7 +37,7 @@ fn every_planted_bug_is_found() {
         let short = reduce(finding, Duration::from_secs(60));
         let (steps, time) = (short.steps.len(), start.elapsed().as_secs_f64());
         println!("{fault:?}: found in {calls} calls, {steps} steps, {time:.2} s: {}", short.words);
-        short.steps.iter().for_each(|step| println!("    {step:?}"));
+        short.steps.iter().for_each(|step| println!("    {step}"));
         assert!(steps <= SHORT, "{fault:?}: the reduced run has {steps} steps");
         plant(None);
         assert!(is_clean(&short), "{fault:?}: the short run shows something else");

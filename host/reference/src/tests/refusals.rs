@@ -18,6 +18,15 @@ fn readers_refuse(store: &Store, root: u64, refusal: Refusal) {
     assert_eq!(store.show(root, 0), Err(refusal));
 }
 
+/// The calls with the pool check refuse like this; nothing is wrong with what they ask.
+fn pool_checkers_refuse(store: &mut Store, root: u64, refusal: Refusal) {
+    assert_eq!(store.audit(), Err(refusal));
+    assert_eq!(store.create(), Err(refusal));
+    assert_eq!(store.write(root, 0, &[1]), Err(refusal));
+    assert_eq!(store.resize(root, 0), Err(refusal));
+    assert_eq!(store.delete(root), Err(refusal));
+}
+
 /// All calls but wipe refuse like this.
 fn all_refuse(store: &mut Store, root: u64, refusal: Refusal) {
     all_named_refuse(store, root, refusal);
@@ -139,11 +148,7 @@ fn eight_names_the_block_of_wrong_shape() {
 fn eight_names_a_part_that_no_root_reaches() {
     let mut store = Store::with_blob(8, 49);
     store.build_leaf(5, PART, &[1]);
-    assert_eq!(store.audit(), Err(no(8, 5)));
-    assert_eq!(store.create(), Err(no(8, 5)));
-    assert_eq!(store.write(0, 0, &[1]), Err(no(8, 5)));
-    assert_eq!(store.resize(0, 0), Err(no(8, 5)));
-    assert_eq!(store.delete(0), Err(no(8, 5)));
+    pool_checkers_refuse(&mut store, 0, no(8, 5));
     assert_eq!(store.length(0), Ok(49));
     assert_eq!(store.show(0, 1), Ok(&[0][..]));
 }
@@ -160,11 +165,7 @@ fn nine_names_the_free_slot_that_has_a_byte() {
     for byte in [0, 31, 63] {
         let mut store = Store::with_blob(8, 49);
         store.block_mut(6)[byte] = 1;
-        assert_eq!(store.audit(), Err(no(9, 6)));
-        assert_eq!(store.create(), Err(no(9, 6)));
-        assert_eq!(store.write(0, 0, &[1]), Err(no(9, 6)));
-        assert_eq!(store.resize(0, 0), Err(no(9, 6)));
-        assert_eq!(store.delete(0), Err(no(9, 6)));
+        pool_checkers_refuse(&mut store, 0, no(9, 6));
         assert_eq!(store.read(0, 0, 49), Ok(vec![0; 49]));
     }
 }
