@@ -6,6 +6,7 @@ use crate::history::try_history;
 use crate::options::Options;
 use crate::run::{play, Finding};
 use crate::tally::Tally;
+use std::panic::{catch_unwind, AssertUnwindSafe};
 use std::sync::atomic::{AtomicBool, AtomicU64, Ordering};
 use std::sync::Mutex;
 use std::thread;
@@ -52,7 +53,8 @@ fn work(options: &Options, shared: &Shared) {
     while !shared.stop.load(Ordering::Relaxed) {
         let run = shared.next_run.fetch_add(1, Ordering::Relaxed);
         let mut tally = Tally::default();
-        let outcome = play_one(options.seed, run, &mut tally);
+        let outcome = catch_unwind(AssertUnwindSafe(|| play_one(options.seed, run, &mut tally)))
+            .unwrap_or_else(|_| Err(Finding::of_panic()));
         let mut met = shared.met.lock().expect("no thread panics while it holds the tally");
         met.0.add(&tally);
         if let Err(finding) = outcome {

@@ -20,6 +20,14 @@ pub struct Finding {
     pub is_difference: bool,
 }
 
+impl Finding {
+    /// A run that ended in a panic; its steps are lost, its number is not.
+    pub fn of_panic() -> Finding {
+        let words = "a side panicked, see above".to_string();
+        Finding { slots: 0, steps: Vec::new(), words, is_difference: false }
+    }
+}
+
 /// How many old blocks a run remembers.
 const PAST_SIZE: usize = 64;
 
@@ -60,6 +68,7 @@ impl<'a> Run<'a> {
     }
 
     pub fn step(&mut self, step: Step) -> Result<Option<Answer>, Finding> {
+        let height = self.height_of_resized(&step);
         self.steps.push(step);
         let step = &self.steps[self.steps.len() - 1];
         let answer = match self.bench.step(step) {
@@ -71,7 +80,22 @@ impl<'a> Run<'a> {
         {
             self.tally.count_answer(call, answer);
         }
+        if let (Some(before), Some([0, ..])) = (height, answer) {
+            let after = self.height_of_resized(step).unwrap_or(before);
+            self.tally.count_resize(before, after);
+        }
         Ok(answer)
+    }
+
+    /// The height that the block of the root to be resized has.
+    fn height_of_resized(&self, step: &Step) -> Option<u8> {
+        let view = self.bench.view();
+        match step {
+            Step::Call(Call::Resize { root, .. }) if *root < view.slots() as u64 => {
+                Some(view.height(*root as usize))
+            }
+            _ => None,
+        }
     }
 
     pub fn steps(&self) -> &[Step] {

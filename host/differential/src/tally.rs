@@ -6,6 +6,8 @@ use tjornsaki::raw::Answer;
 
 /// Numbers of an answer: 0 for done, 1 to 12 for refused.
 const NUMBERS: usize = 13;
+/// Heights of a root.
+const HEIGHTS: usize = 4;
 
 #[derive(Clone, Default)]
 pub struct Tally {
@@ -13,6 +15,8 @@ pub struct Tally {
     pub runs: u64,
     answers: [[u64; NUMBERS]; KINDS.len()],
     raids: [u64; RAIDS.len()],
+    /// Resizes that were done, by the root's height before and after.
+    heights: [[u64; HEIGHTS]; HEIGHTS],
     /// Demand three: stores tried, and answers by number.
     pub mixed_stores: u64,
     mixed_answers: [u64; NUMBERS],
@@ -28,6 +32,10 @@ impl Tally {
         self.raids[raid] += 1;
     }
 
+    pub fn count_resize(&mut self, before: u8, after: u8) {
+        self.heights[usize::from(before) % HEIGHTS][usize::from(after) % HEIGHTS] += 1;
+    }
+
     pub fn count_mixed(&mut self, answer: &Answer) {
         self.mixed_answers[(answer[0] as usize).min(NUMBERS - 1)] += 1;
     }
@@ -37,6 +45,9 @@ impl Tally {
         self.runs += other.runs;
         self.mixed_stores += other.mixed_stores;
         for (row, more) in self.answers.iter_mut().zip(&other.answers) {
+            add_rows(row, more);
+        }
+        for (row, more) in self.heights.iter_mut().zip(&other.heights) {
             add_rows(row, more);
         }
         add_rows(&mut self.raids, &other.raids);
@@ -52,6 +63,17 @@ impl Tally {
             }
             let unmet = kind.refusals.iter().filter(|number| row[**number as usize] == 0);
             missing.extend(unmet.map(|number| format!("{} refused {number}", kind.name)));
+        }
+        missing.extend(self.missing_stores());
+        missing
+    }
+
+    fn missing_stores(&self) -> Vec<String> {
+        let mut missing = Vec::new();
+        for (before, row) in self.heights.iter().enumerate() {
+            let unmet = row.iter().enumerate().filter(|(_, count)| **count == 0);
+            missing
+                .extend(unmet.map(|(after, _)| format!("resize from height {before} to {after}")));
         }
         let unmet = RAIDS.iter().zip(&self.raids).filter(|(_, count)| **count == 0);
         missing.extend(unmet.map(|((name, _), _)| name.to_string()));
@@ -87,6 +109,15 @@ impl Tally {
             }
             println!();
         }
+        println!("resizes done, by the root's height before (rows) and after (columns)");
+        for (height, row) in self.heights.iter().enumerate() {
+            let counts: Vec<String> = row.iter().map(|count| format!("{count:>9}")).collect();
+            println!("{height:>8} {}", counts.join(" "));
+        }
+        self.print_stores();
+    }
+
+    fn print_stores(&self) {
         println!("stores spoilt or shifted");
         RAIDS.iter().zip(&self.raids).for_each(|((name, _), count)| println!("{count:>9} {name}"));
         println!("demand three: {} stores of old blocks; answers by number", self.mixed_stores);
