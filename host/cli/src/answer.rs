@@ -1,0 +1,53 @@
+//! What a command has to say, for people and for machines.
+
+use crate::failure::Failure;
+use crate::json::{success, Json};
+use std::io::Write;
+
+/// The answer of a command that was not stopped.
+pub struct Answer {
+    /// For people, or the bytes asked for.
+    plain: Vec<u8>,
+    /// For machines.
+    fields: Vec<(&'static str, Json)>,
+    /// A failure that comes with the answer, and gives the status.
+    pub failure: Option<Failure>,
+}
+
+impl Answer {
+    /// A line for people, and the fields for machines.
+    pub fn line(words: impl Into<String>, fields: Vec<(&'static str, Json)>) -> Answer {
+        let words = words.into() + "\n";
+        Answer { plain: words.into_bytes(), fields, failure: None }
+    }
+
+    /// Bytes as they are, and the fields for machines.
+    pub fn bytes(bytes: Vec<u8>, fields: Vec<(&'static str, Json)>) -> Answer {
+        Answer { plain: bytes, fields, failure: None }
+    }
+
+    pub fn print(&self, command: &'static str, json: bool) -> Result<(), Failure> {
+        if json {
+            print_bytes(format!("{}\n", self.object(command)).as_bytes())
+        } else {
+            print_bytes(&self.plain)
+        }
+    }
+
+    fn object(&self, command: &'static str) -> Json {
+        match &self.failure {
+            None => success(command, self.fields.clone()),
+            Some(failure) => match crate::json::failure(Some(command), failure) {
+                Json::Object(fields) => Json::Object([fields, self.fields.clone()].concat()),
+                other => other,
+            },
+        }
+    }
+}
+
+/// Writes to standard output to the last byte.
+pub fn print_bytes(bytes: &[u8]) -> Result<(), Failure> {
+    let mut out = std::io::stdout().lock();
+    let done = out.write_all(bytes).and_then(|()| out.flush());
+    done.map_err(|error| Failure::output(&error))
+}

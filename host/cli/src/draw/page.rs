@@ -1,0 +1,128 @@
+//! The whole page: title, verdict, colours, slots, blobs.
+
+use super::canvas::{width_of, Canvas, Pen, FAINT, GREEN, INK, RED};
+use super::cell::{self, Scale};
+use super::grid;
+use super::scene::{Blob, Cell, Role, Scene};
+use super::tree::place;
+use crate::layout::{blocks, leaves};
+
+const MARGIN: i32 = 28;
+/// Blobs stand side by side up to here.
+const WIDTH: i32 = 1_640;
+const BETWEEN_BLOBS: i32 = 36;
+
+pub fn page(scene: &Scene, title: &str) -> String {
+    let mut canvas = Canvas::default();
+    canvas.text(MARGIN, 50, Pen::left(26, INK).bold(), title);
+    let y = verdict(&mut canvas, scene, 80);
+    let y = colours(&mut canvas, y + 14);
+    let y = heading(&mut canvas, "Slots", &counts(scene), y + 44);
+    let y = grid::draw(&mut canvas, scene, MARGIN, y);
+    let roots = "root on top; a leaf holds up to 48 bytes, a block above up to 12 blocks";
+    let y = heading(&mut canvas, "Blobs", roots, y + 52);
+    blobs(&mut canvas, scene, y);
+    canvas.finish(MARGIN)
+}
+
+/// What the audit says, and each refused slot in words.
+fn verdict(canvas: &mut Canvas, scene: &Scene, y: i32) -> i32 {
+    let mut y = y;
+    match scene.audit {
+        Ok(live) => {
+            let words = format!("Sound: the audit passes, {live} slots in use.");
+            canvas.text(MARGIN, y, Pen::left(15, GREEN).bold(), &words);
+        }
+        Err(refusal) => {
+            let words = format!("Not sound: audit {refusal}.");
+            canvas.text(MARGIN, y, Pen::left(15, RED).bold(), &words);
+        }
+    }
+    for cell in scene.refused() {
+        y += 20;
+        canvas.text(MARGIN, y, Pen::left(13, RED), &told(cell));
+    }
+    y
+}
+
+fn told(cell: &Cell) -> String {
+    let words = cell.refusal.map_or(String::new(), |refusal| refusal.to_string());
+    let claims = cell.claims.as_ref().map_or(String::new(), |claims| format!("; its {claims}"));
+    format!("{words} (record: version {}{claims})", cell.version)
+}
+
+/// One sample of each colour.
+fn colours(canvas: &mut Canvas, y: i32) -> i32 {
+    let sample = |role, version| Cell { slot: 7, role, version, refusal: None, claims: None };
+    let refused = tjornsaki::Refusal { number: 6, slot: None };
+    let samples = [
+        (sample(Role::Root, 1), "root"),
+        (sample(Role::Inner, 1), "inner block"),
+        (sample(Role::Leaf, 1), "leaf"),
+        (sample(Role::Free, 1), "free"),
+        (sample(Role::Free, u64::MAX), "free but worn"),
+        (sample(Role::Leaf, u64::MAX), "in use but worn"),
+        (Cell { refusal: Some(refused), ..sample(Role::Leaf, 1) }, "refused"),
+    ];
+    let mut x = MARGIN;
+    for (cell, words) in samples {
+        cell::draw(canvas, &cell, x, y, Scale::Small);
+        canvas.text(x + 46, y + 18, Pen::left(12, INK), words);
+        x += 46 + width_of(words, 12) + 16;
+    }
+    canvas.text(
+        MARGIN,
+        y + 46,
+        Pen::left(12, FAINT),
+        "slot number, and below it v and the version in the records",
+    );
+    y + 46
+}
+
+fn counts(scene: &Scene) -> String {
+    let free = scene.count(|cell| cell.role == Role::Free && !cell.worn());
+    let worn = scene.count(|cell| cell.role == Role::Free && cell.worn());
+    let live = scene.cells.len() - free - worn;
+    let worn = if worn > 0 { format!(", {worn} free but worn") } else { String::new() };
+    format!("{} slots: {live} in use, {free} free{worn}", scene.cells.len())
+}
+
+fn heading(canvas: &mut Canvas, words: &str, more: &str, y: i32) -> i32 {
+    canvas.text(MARGIN, y, Pen::left(17, INK).bold(), words);
+    canvas.text(MARGIN + width_of(words, 17) + 18, y, Pen::left(12, FAINT), more);
+    y + 14
+}
+
+/// The blobs from left to right, in as many lines as they need.
+fn blobs(canvas: &mut Canvas, scene: &Scene, top: i32) {
+    let scale = Scale::of(scene.cells.len());
+    let (mut x, mut y, mut tall) = (MARGIN, top, 0);
+    if scene.blobs.is_empty() {
+        canvas.text(MARGIN, y + 14, Pen::left(13, FAINT), "none");
+    }
+    for blob in &scene.blobs {
+        let tree = place(&blob.tree, scale, WIDTH);
+        let (name, about) = (format!("Blob {}", blob.tree.slot), about(blob));
+        let wide = tree.width.max(width_of(&about, 11)).max(width_of(&name, 14));
+        if x > MARGIN && x + wide > MARGIN + WIDTH {
+            (x, y, tall) = (MARGIN, y + tall + BETWEEN_BLOBS, 0);
+        }
+        let colour = if blob.length.is_ok() { FAINT } else { RED };
+        canvas.text(x, y + 16, Pen::left(14, INK).bold(), &name);
+        canvas.text(x, y + 32, Pen::left(11, colour), &about);
+        tree.draw(canvas, scene, x, y + 42, scale);
+        tall = tall.max(tree.height + 42);
+        x += wide + BETWEEN_BLOBS;
+    }
+}
+
+fn about(blob: &Blob) -> String {
+    match blob.length {
+        Ok(length) => {
+            let blocks = blocks(leaves(length));
+            let words = if blocks == 1 { "block" } else { "blocks" };
+            format!("{length} bytes, {blocks} {words}")
+        }
+        Err(refusal) => refusal.to_string(),
+    }
+}

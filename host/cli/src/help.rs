@@ -1,0 +1,155 @@
+//! The commands and their help.
+
+/// A command: its words, those in brackets optional, and its options.
+pub struct Command {
+    pub name: &'static str,
+    pub words: &'static [&'static str],
+    /// Options with a value.
+    pub options: &'static [&'static str],
+    /// Options without.
+    pub flags: &'static [&'static str],
+    /// One line for the list of commands.
+    pub short: &'static str,
+    /// The rest of its help.
+    pub long: &'static str,
+}
+
+const FILE: &str = "[FILE|-]";
+
+#[rustfmt::skip]
+pub const COMMANDS: [Command; 13] = [
+    Command { name: "init", words: &[], options: &["--slots"], flags: &["--force"],
+        short: "make an empty store",
+        long: "\
+Makes a pool and records with N slots, all free.
+
+  --slots N   how many slots, 1 to 1024 (16). A blob of up to 48 bytes takes
+              one; one of 100 bytes four: three for its bytes, one above them.
+  --force     replace files that exist; what they held is lost" },
+    Command { name: "create", words: &[], options: &[], flags: &[],
+        short: "make an empty blob, and print its number",
+        long: "\
+Makes an empty blob in the lowest usable free slot. Prints the number of that
+slot: it is the blob's ROOT in all other commands, as long as the blob lives." },
+    Command { name: "ls", words: &[], options: &[], flags: &[],
+        short: "list the blobs",
+        long: "\
+Lists the blobs by their roots: length in bytes, leaves, blocks (slots taken),
+and the root's version. A blob that the store refuses is listed with the
+refusal; the exit status is that of the first one." },
+    Command { name: "length", words: &["ROOT"], options: &[], flags: &[],
+        short: "print a blob's length",
+        long: "Prints the blob's length in bytes." },
+    Command { name: "put", words: &["ROOT", FILE], options: &[], flags: &[],
+        short: "make a blob's bytes those of a file",
+        long: "\
+Makes the blob exactly the bytes of FILE, or of standard input: it is resized
+and then written, both or nothing." },
+    Command { name: "get", words: &["ROOT", FILE], options: &["--offset", "--size"], flags: &[],
+        short: "write a blob's bytes to a file",
+        long: "\
+Writes the blob's bytes to FILE, or to standard output. The whole blob is
+checked before the first byte is written.
+
+  --offset N   from this byte on (0)
+  --size N     so many bytes (all that follow)
+
+With --json and no FILE the bytes stand in the answer, in hexadecimal." },
+    Command { name: "write", words: &["ROOT", "OFFSET", FILE], options: &[], flags: &[],
+        short: "put bytes into a blob",
+        long: "\
+Puts the bytes of FILE, or of standard input, into the blob from OFFSET on.
+They must lie inside its length: write never lengthens a blob, resize does." },
+    Command { name: "resize", words: &["ROOT", "LENGTH"], options: &[], flags: &[],
+        short: "make a blob longer or shorter",
+        long: "Makes the blob LENGTH bytes long, with zeros at its end, or cuts it." },
+    Command { name: "show", words: &["ROOT", "LEAF"], options: &[], flags: &[],
+        short: "write one leaf of a blob",
+        long: "\
+Writes the bytes of one leaf of the blob to standard output. Leaves are counted
+from 0 and hold 48 bytes each, the last one the rest." },
+    Command { name: "delete", words: &["ROOT"], options: &[], flags: &[],
+        short: "delete a blob",
+        long: "Deletes the blob; its slots are free again and keep their versions." },
+    Command { name: "audit", words: &[], options: &[], flags: &[],
+        short: "check the whole store",
+        long: "\
+Checks every block and every free slot against the records, and counts the
+slots in use." },
+    Command { name: "draw", words: &[], options: &["--out"], flags: &[],
+        short: "draw a picture of the store",
+        long: "\
+Draws the slots with their versions and the blobs as trees. A slot that the
+store refuses is red, with the reason; the command itself then still succeeds.
+
+  --out FILE.svg   write it there (standard output)" },
+    Command { name: "demo", words: &[], options: &["--out"], flags: &[],
+        short: "see what this is for, in a minute",
+        long: "\
+Plays three nights on which rented storage hands back a block that is old,
+moved, or deleted, with a store in memory. It touches no store of yours.
+
+  --out FOLDER   also write a picture of each night, and the files to try
+                 the other commands on" },
+];
+
+const USAGE: &str = "\
+tjornsaki: keeps blobs in a pool of small blocks, and notices when a block is
+damaged, moved, or old
+
+Usage: tjornsaki COMMAND [WORDS] [OPTIONS]
+
+Commands:
+";
+
+const EVERYWHERE: &str = "
+Options of every command:
+  --pool FILE      the pool (TJORNSAKI_POOL, else store.pool)
+  --records FILE   the records (TJORNSAKI_RECORDS, else store.records)
+  --wait SECONDS   wait so long for another command to finish (0)
+  --json           answer with one JSON object, also when something fails
+  --help           tell more about a command
+";
+
+const MORE: &str = "
+The pool may lie anywhere, on rented storage too: every block is checked. The
+records are what it is checked against: keep them where nobody else writes.
+If both are put back to an old state together, no one can tell.
+
+A changing command replaces both files or neither. It writes new ones beside
+them (.tj-new), and replaces the records, then the pool. If it fails, both stay
+as they were. If the power fails, the next command finds the store as before or
+as after the change. While it runs, the store is locked (.tj-lock stays; it is
+empty).
+
+Exit status:
+  0         done
+  1 to 12   refused by the store; nothing was changed:
+            1 wrong lengths   2 broken record   3 not a root      4 spoiled
+            5 moved           6 rolled back     7 ahead           8 wrong shape
+            9 reintroduced   10 out of range   11 no room        12 worn
+  64        the command line is wrong
+  66        a file or a folder is missing
+  70        a fault of this program
+  73        a file exists that would be replaced
+  74        a file cannot be read or written
+  75        the store is locked by another command
+  77        a file may not be read or written
+";
+
+/// The help of one command, or of them all.
+pub fn help(command: Option<&Command>) -> String {
+    match command {
+        Some(command) => {
+            let mut usage = vec!["Usage: tjornsaki", command.name];
+            usage.extend(command.words);
+            let usage = usage.join(" ");
+            format!("{usage} [OPTIONS]\n\n{}\n{EVERYWHERE}", command.long)
+        }
+        None => {
+            let line = |command: &Command| format!("  {:8} {}\n", command.name, command.short);
+            let list: String = COMMANDS.iter().map(line).collect();
+            format!("{USAGE}{list}{EVERYWHERE}{MORE}")
+        }
+    }
+}

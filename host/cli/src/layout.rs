@@ -1,0 +1,121 @@
+//! The bytes of blocks and records, as far as a list or a picture shows them.
+//! Nothing here decides whether a block is good: the library does.
+
+use tjornsaki::{BLOCK_BYTES, RECORD_BYTES};
+
+/// The bytes of a leaf.
+pub const LEAF_BYTES: u64 = 48;
+/// The children of an inner block.
+pub const FAN_OUT: u64 = 12;
+
+const HEAD: usize = 16;
+
+#[derive(Clone, Copy, Debug, PartialEq, Eq)]
+pub enum State {
+    Free,
+    Part,
+    Root,
+    Broken,
+}
+
+#[derive(Clone, Copy, Debug)]
+pub struct Record {
+    pub state: State,
+    pub version: u64,
+}
+
+/// The record of each slot.
+pub fn records(bytes: &[u8]) -> Vec<Record> {
+    bytes.chunks_exact(RECORD_BYTES).map(record).collect()
+}
+
+fn record(bytes: &[u8]) -> Record {
+    let state = match bytes[..4] {
+        [0x52, 0x31, 0, 0] => State::Free,
+        [0x52, 0x31, 1, 0] => State::Part,
+        [0x52, 0x31, 2, 0] => State::Root,
+        _ => State::Broken,
+    };
+    Record { state, version: number(&bytes[4..12]) }
+}
+
+/// A block as it lies in the pool, whoever wrote it.
+#[derive(Clone, Copy)]
+pub struct Block<'a> {
+    bytes: &'a [u8],
+}
+
+/// The block of a slot, if the pool has the slot.
+pub fn block(pool: &[u8], slot: usize) -> Option<Block<'_>> {
+    pool.chunks_exact(BLOCK_BYTES).nth(slot).map(|bytes| Block { bytes })
+}
+
+impl<'a> Block<'a> {
+    pub fn marked(&self) -> bool {
+        self.bytes[..2] == [0x4c, 0x31]
+    }
+
+    pub fn height(&self) -> u8 {
+        self.bytes[2]
+    }
+
+    pub fn slot(&self) -> u64 {
+        number(&self.bytes[4..8])
+    }
+
+    pub fn version(&self) -> u64 {
+        number(&self.bytes[8..HEAD])
+    }
+
+    /// The bytes of a leaf.
+    pub fn data(&self) -> &'a [u8] {
+        let size = usize::from(self.bytes[3]).min(LEAF_BYTES as usize);
+        &self.bytes[HEAD..HEAD + size]
+    }
+
+    /// The slots in the row of an inner block.
+    pub fn children(&self) -> Vec<usize> {
+        let count = usize::from(self.bytes[3]).min(FAN_OUT as usize);
+        let row = self.bytes[HEAD..].chunks_exact(4).take(count);
+        row.map(|child| number(child) as usize).collect()
+    }
+}
+
+fn number(bytes: &[u8]) -> u64 {
+    bytes.iter().rev().fold(0, |number, byte| number << 8 | u64::from(*byte))
+}
+
+/// The slots whose records say root.
+pub fn roots(records: &[Record]) -> Vec<u64> {
+    let slots = (0u64..).zip(records);
+    slots.filter(|(_, record)| record.state == State::Root).map(|(slot, _)| slot).collect()
+}
+
+/// How many leaves a blob of this length has.
+pub fn leaves(length: u64) -> u64 {
+    rounded_up(length, LEAF_BYTES).max(1)
+}
+
+/// How many blocks a blob with so many leaves has.
+pub fn blocks(leaves: u64) -> u64 {
+    match leaves {
+        1 => 1,
+        _ => leaves + blocks(rounded_up(leaves, FAN_OUT)),
+    }
+}
+
+fn rounded_up(number: u64, by: u64) -> u64 {
+    number / by + u64::from(number % by != 0)
+}
+
+#[cfg(test)]
+mod tests {
+    use super::*;
+
+    #[test]
+    fn blocks_by_length() {
+        let lengths = [0, 48, 49, 576, 577, 6_912, 6_913, 44_976, 44_977];
+        let counts = [1, 1, 3, 13, 16, 157, 161, 1_024, 1_025];
+        assert_eq!(lengths.map(|length| blocks(leaves(length))), counts);
+    }
+}

@@ -1,0 +1,77 @@
+//! The command line: a store in two files, the pool and the records.
+#![deny(unsafe_code)]
+
+mod answer;
+mod commands;
+mod demo;
+mod draw;
+mod failure;
+mod files;
+mod help;
+mod json;
+mod layout;
+mod lock;
+mod pair;
+mod words;
+
+use failure::Failure;
+use std::ffi::OsString;
+use std::io::Write;
+use std::panic;
+use std::process::ExitCode;
+use words::{take_apart, Asked};
+
+fn main() -> ExitCode {
+    let args: Vec<OsString> = std::env::args_os().skip(1).collect();
+    panic::set_hook(Box::new(|_| ()));
+    let ended = panic::catch_unwind(|| run(&args));
+    let told = ended.unwrap_or_else(|fault| Err((None, Failure::internal(words_of(&*fault)))));
+    match told {
+        Ok(status) => ExitCode::from(status),
+        Err((command, failure)) => {
+            tell(&args, command, &failure);
+            ExitCode::from(failure.status())
+        }
+    }
+}
+
+/// A failure, and the command that it happened to.
+type Told = (Option<&'static str>, Failure);
+
+fn run(args: &[OsString]) -> Result<u8, Told> {
+    let asked = take_apart(args).map_err(|failure| (None, failure))?;
+    let words = match asked {
+        Asked::Run(words) => words,
+        Asked::Help(command) => return print(&help::help(command)),
+        Asked::Version => return print(concat!("tjornsaki ", env!("CARGO_PKG_VERSION"), "\n")),
+    };
+    let name = words.command.name;
+    let told = |failure| (Some(name), failure);
+    let answer = commands::run(&words).map_err(told)?;
+    answer.print(name, words.flag("--json")).map_err(told)?;
+    Ok(answer.failure.map_or(0, |failure| failure.status()))
+}
+
+fn print(text: &str) -> Result<u8, Told> {
+    answer::print_bytes(text.as_bytes()).map(|()| 0).map_err(|failure| (None, failure))
+}
+
+/// Says what failed: to people on standard error, to machines on output.
+fn tell(args: &[OsString], command: Option<&'static str>, failure: &Failure) {
+    if matches!(failure, Failure::Unread) {
+        return;
+    }
+    if args.iter().take_while(|word| *word != "--").any(|word| word == "--json") {
+        let object = json::failure(command, failure);
+        let _ = answer::print_bytes(format!("{object}\n").as_bytes());
+    } else {
+        let _ = writeln!(std::io::stderr(), "tjornsaki: {failure}");
+    }
+}
+
+/// The words of a panic.
+fn words_of(fault: &(dyn std::any::Any + Send)) -> String {
+    let text = fault.downcast_ref::<String>().map(String::as_str);
+    let text = text.or_else(|| fault.downcast_ref::<&str>().copied());
+    format!("a fault of this program: {}", text.unwrap_or("it says nothing more"))
+}

@@ -1,0 +1,188 @@
+//! The words of the command line, taken apart by a table of commands.
+
+use crate::failure::Failure;
+use crate::help::{Command, COMMANDS};
+use std::ffi::{OsStr, OsString};
+use std::path::PathBuf;
+use std::time::Duration;
+
+/// Options of every command, each with a value.
+const EVERYWHERE: [&str; 3] = ["--pool", "--records", "--wait"];
+
+/// A command with its words and options.
+pub struct Words {
+    pub command: &'static Command,
+    words: Vec<OsString>,
+    options: Vec<(String, OsString)>,
+    flags: Vec<String>,
+}
+
+/// What the command line asks for.
+pub enum Asked {
+    Run(Words),
+    Help(Option<&'static Command>),
+    Version,
+}
+
+/// Takes the command line apart. Options may stand anywhere; after `--` there
+/// are none.
+pub fn take_apart(args: &[OsString]) -> Result<Asked, Failure> {
+    let place = first_word(args).unwrap_or(0);
+    let (command, rest) = match args.get(place).and_then(|word| named(word)) {
+        Some(command) => (command, [&args[..place], &args[place + 1..]].concat()),
+        None => return without_command(args),
+    };
+    if wants_help(&rest) {
+        return Ok(Asked::Help(Some(command)));
+    }
+    let mut found = Words { command, words: vec![], options: vec![], flags: vec![] };
+    let mut rest = rest.into_iter();
+    let mut open = true;
+    while let Some(word) = rest.next() {
+        match word.to_str() {
+            Some("--") if open => open = false,
+            Some(option) if open && option.len() > 1 && option.starts_with('-') => {
+                found.option(option, &mut rest)?;
+            }
+            _ => found.words.push(word),
+        }
+    }
+    found.count()?;
+    Ok(Asked::Run(found))
+}
+
+fn wants_help(args: &[OsString]) -> bool {
+    args.iter().take_while(|word| *word != "--").any(|word| word == "--help" || word == "-h")
+}
+
+/// The place of the first word that is neither an option nor a value of one.
+fn first_word(args: &[OsString]) -> Option<usize> {
+    let mut place = 0;
+    while place < args.len() {
+        let word = args[place].to_string_lossy();
+        if EVERYWHERE.contains(&word.as_ref()) {
+            place += 1;
+        } else if !word.starts_with('-') {
+            return Some(place);
+        }
+        place += 1;
+    }
+    None
+}
+
+/// No known command: a question about the program, or a mistake.
+fn without_command(args: &[OsString]) -> Result<Asked, Failure> {
+    let place = first_word(args);
+    let word = place.map(|place| args[place].to_string_lossy());
+    match word.as_deref() {
+        Some("help") => Ok(Asked::Help(args.get(1).and_then(|word| named(word)))),
+        _ if wants_help(args) => Ok(Asked::Help(None)),
+        None if args.iter().any(|word| word == "--version" || word == "-V") => Ok(Asked::Version),
+        None => Err(Failure::usage("no command; `tjornsaki --help` lists them")),
+        Some(word) => {
+            let words = format!("unknown command `{word}`; `tjornsaki --help` lists them");
+            Err(Failure::usage(words))
+        }
+    }
+}
+
+fn named(word: &OsStr) -> Option<&'static Command> {
+    COMMANDS.iter().find(|command| word == command.name)
+}
+
+impl Words {
+    /// Takes an option, and its value from `--name=value` or the next word.
+    fn option(
+        &mut self,
+        word: &str,
+        rest: &mut impl Iterator<Item = OsString>,
+    ) -> Result<(), Failure> {
+        let (name, value) = match word.split_once('=') {
+            Some((name, value)) => (name, Some(OsString::from(value))),
+            None => (word, None),
+        };
+        let (valued, flags) = (self.command.options, self.command.flags);
+        if EVERYWHERE.contains(&name) || valued.contains(&name) {
+            let value = value.or_else(|| rest.next());
+            let value = value.ok_or_else(|| self.mistake(format!("{name} needs a value")))?;
+            self.options.push((name.to_string(), value));
+            return Ok(());
+        }
+        if value.is_none() && (name == "--json" || flags.contains(&name)) {
+            self.flags.push(name.to_string());
+            return Ok(());
+        }
+        let hint = if name[1..].starts_with(|letter: char| letter.is_ascii_digit()) {
+            " (numbers are not negative)"
+        } else {
+            ""
+        };
+        Err(self.mistake(format!("unknown option {word}{hint}")))
+    }
+
+    /// Fails if there are too few or too many words.
+    fn count(&self) -> Result<(), Failure> {
+        let names = self.command.words;
+        if self.words.len() > names.len() {
+            let word = self.words[names.len()].to_string_lossy().into_owned();
+            return Err(self.mistake(format!("`{word}` is one word too many")));
+        }
+        match names.get(self.words.len()) {
+            Some(name) if !name.starts_with('[') => Err(self.mistake(format!("{name} is missing"))),
+            _ => Ok(()),
+        }
+    }
+
+    fn mistake(&self, words: String) -> Failure {
+        let name = self.command.name;
+        Failure::usage(format!("{words}; `tjornsaki {name} --help` tells more"))
+    }
+
+    pub fn flag(&self, name: &str) -> bool {
+        self.flags.iter().any(|flag| flag == name)
+    }
+
+    /// The option's value, the last one given.
+    pub fn value(&self, name: &str) -> Option<&OsStr> {
+        let given = self.options.iter().rev().find(|(option, _)| option == name);
+        given.map(|(_, value)| value.as_os_str())
+    }
+
+    /// The word at this place as a number.
+    pub fn number(&self, place: usize) -> Result<u64, Failure> {
+        self.as_number(self.command.words[place], &self.words[place])
+    }
+
+    /// The option's value as a number, if it is given.
+    pub fn number_of(&self, name: &str) -> Result<Option<u64>, Failure> {
+        self.value(name).map(|value| self.as_number(name, value)).transpose()
+    }
+
+    fn as_number(&self, name: &str, word: &OsStr) -> Result<u64, Failure> {
+        let word = word.to_string_lossy();
+        let digits = !word.is_empty() && word.bytes().all(|letter| letter.is_ascii_digit());
+        let most = u64::MAX;
+        match word.parse() {
+            Ok(number) if digits => Ok(number),
+            _ if digits => Err(self.mistake(format!("{name} is at most {most}, not {word}"))),
+            _ => Err(self.mistake(format!("{name} is a number from 0 on, not `{word}`"))),
+        }
+    }
+
+    /// The file named at this place; none for `-` or where none is named.
+    pub fn file(&self, place: usize) -> Option<PathBuf> {
+        self.words.get(place).filter(|word| *word != "-").map(PathBuf::from)
+    }
+
+    /// A file from an option, else from the environment, else by default.
+    pub fn path(&self, option: &str, variable: &str, default: &str) -> PathBuf {
+        let given = self.value(option).map(OsString::from);
+        let set = || std::env::var_os(variable).filter(|value| !value.is_empty());
+        PathBuf::from(given.or_else(set).unwrap_or_else(|| default.into()))
+    }
+
+    pub fn wait(&self) -> Result<Duration, Failure> {
+        let seconds = self.number_of("--wait")?.unwrap_or(0);
+        Ok(Duration::from_secs(seconds.min(86_400)))
+    }
+}
