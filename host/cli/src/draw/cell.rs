@@ -56,19 +56,19 @@ fn reason(cell: &Cell) -> String {
     }
 }
 
-/// A version in at most five letters; the pointer shows all of it.
+/// A version in at most six letters; the pointer shows all of it.
 pub fn short(version: u64) -> String {
     if version == u64::MAX {
-        return "last".into();
+        return "v last".into();
     }
     let mut rest = version;
     for unit in ["", "k", "M", "G", "T", "P", "E"] {
         if rest < 10_000 {
-            return format!("{rest}{unit}");
+            return format!("v{rest}{unit}");
         }
         rest /= 1_000;
     }
-    format!("{rest}E")
+    format!("v{rest}E")
 }
 
 pub fn draw(canvas: &mut Canvas, cell: &Cell, x: i32, y: i32, scale: Scale) {
@@ -83,12 +83,12 @@ pub fn draw(canvas: &mut Canvas, cell: &Cell, x: i32, y: i32, scale: Scale) {
     match scale {
         Scale::Large => {
             canvas.text(middle, y + 23, Pen::middle(18, ink).bold(), &cell.slot.to_string());
-            canvas.text(middle, y + 38, Pen::middle(11, ink), &format!("v{}", short(cell.version)));
+            canvas.text(middle, y + 38, Pen::middle(11, ink), &short(cell.version));
             canvas.text(middle, y + 53, Pen::middle(11, ink), &reason(cell));
         }
         Scale::Small => {
             canvas.text(middle, y + 13, Pen::middle(11, ink).bold(), &cell.slot.to_string());
-            canvas.text(middle, y + 24, Pen::middle(9, ink), &format!("v{}", short(cell.version)));
+            canvas.text(middle, y + 24, Pen::middle(9, ink), &short(cell.version));
         }
     }
     canvas.close();
@@ -102,8 +102,8 @@ pub fn flag(canvas: &mut Canvas, cell: &Cell, x: i32, y: i32, scale: Scale) {
     let ((w, h), words) = (scale.size(), reason(cell));
     let wide = width_of(&words, 11) + 12;
     let left = (x + w / 2 - wide / 2).max(4);
-    canvas.rect(Frame { x: left, y: y + h - 2, w: wide, h: 18 }, RED, "#ffffff", "1.5");
-    canvas.text(left + wide / 2, y + h + 11, Pen::middle(11, "#ffffff").bold(), &words);
+    canvas.rect(Frame { x: left, y: y + h, w: wide, h: 18 }, RED, "#ffffff", "1.5");
+    canvas.text(left + wide / 2, y + h + 13, Pen::middle(11, "#ffffff").bold(), &words);
 }
 
 #[cfg(test)]
@@ -113,7 +113,7 @@ mod tests {
     #[test]
     fn versions_are_short() {
         let versions = [0, 9_999, 10_000, 123_456_789, u64::MAX - 1, u64::MAX];
-        let words = ["0", "9999", "10k", "123M", "18E", "last"];
+        let words = ["v0", "v9999", "v10k", "v123M", "v18E", "v last"];
         assert_eq!(versions.map(short), words);
     }
 }

@@ -33,9 +33,9 @@ fn verdict(canvas: &mut Canvas, scene: &Scene, y: i32) -> i32 {
             let words = format!("Sound: the audit passes, {live} slots in use.");
             canvas.text(MARGIN, y, Pen::left(15, GREEN).bold(), &words);
         }
-        Err(refusal) => {
-            let words = format!("Not sound: audit {refusal}.");
-            canvas.text(MARGIN, y, Pen::left(15, RED).bold(), &words);
+        Err(_) => {
+            let words = "Not sound: the audit is refused.";
+            canvas.text(MARGIN, y, Pen::left(15, RED).bold(), words);
         }
     }
     for cell in scene.refused() {
@@ -48,7 +48,8 @@ fn verdict(canvas: &mut Canvas, scene: &Scene, y: i32) -> i32 {
 fn told(cell: &Cell) -> String {
     let words = cell.refusal.map_or(String::new(), |refusal| refusal.to_string());
     let claims = cell.claims.as_ref().map_or(String::new(), |claims| format!("; its {claims}"));
-    format!("{words} (record: version {}{claims})", cell.version)
+    let free = if cell.role == Role::Free { "free, " } else { "" };
+    format!("{words} (its record says {free}version {}{claims})", cell.version)
 }
 
 /// One sample of each colour.

@@ -55,7 +55,7 @@ pub fn place(node: &Node, scale: Scale, limit: i32) -> Placed {
     if node.children.is_empty() {
         return single(node.slot, scale);
     }
-    if leaves && scale == Scale::Small && node.children.len() > STACK {
+    if leaves && scale == Scale::Small {
         return stack(node, scale);
     }
     let indent = scale.size().0 / 2 + ASIDE;
@@ -77,12 +77,13 @@ fn single(slot: usize, scale: Scale) -> Placed {
 /// A block over its leaves, several rows of them without gaps.
 fn stack(node: &Node, scale: Scale) -> Placed {
     let (w, h) = scale.size();
-    let middle = w * STACK as i32 / 2;
+    let columns = STACK.min(node.children.len());
+    let middle = w * columns as i32 / 2;
     let mut placed = Placed { middle, ..Placed::default() };
     placed.lines.push(((middle, h), (middle, h + DOWN / 2)));
     placed.take(single(node.slot, scale), middle - w / 2, 0);
     for (place, leaf) in node.children.iter().enumerate() {
-        let (column, row) = ((place % STACK) as i32, (place / STACK) as i32);
+        let (column, row) = ((place % columns) as i32, (place / columns) as i32);
         placed.take(single(leaf.slot, scale), column * w, h + DOWN / 2 + row * h);
     }
     placed

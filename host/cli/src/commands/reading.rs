@@ -1,0 +1,94 @@
+//! The commands that read a store.
+
+use super::place;
+use crate::answer::Answer;
+use crate::draw;
+use crate::failure::Failure;
+use crate::json::Json;
+use crate::layout::LEAF_BYTES;
+use crate::pair::Pair;
+use crate::words::Words;
+use std::path::PathBuf;
+use tjornsaki::{Refusal, BLOCK_BYTES, RECORD_BYTES};
+
+pub fn length(words: &Words) -> Result<Answer, Failure> {
+    let root = words.number(0)?;
+    let pair = place(words)?.load()?;
+    let length = tjornsaki::length(&pair.pool, &pair.records, root)?;
+    let fields = vec![("root", Json::Number(root)), ("length", Json::Number(length))];
+    Ok(Answer::line(length.to_string(), fields))
+}
+
+pub fn get(words: &Words) -> Result<Answer, Failure> {
+    let root = words.number(0)?;
+    let offset = words.number_of("--offset")?.unwrap_or(0);
+    let size = words.number_of("--size")?;
+    let place = place(words)?;
+    let bytes = read(&place.load()?, root, offset, size)?;
+    let size = bytes.len() as u64;
+    let mut fields = vec![
+        ("root", Json::Number(root)),
+        ("offset", Json::Number(offset)),
+        ("size", Json::Number(size)),
+    ];
+    match words.file(1) {
+        Some(path) => {
+            place.save(&path, &bytes)?;
+            Ok(Answer::line(format!("{size} bytes to {}", path.display()), fields))
+        }
+        None => {
+            fields.push(("hex", Json::hex(&bytes)));
+            Ok(Answer::bytes(bytes, fields))
+        }
+    }
+}
+
+/// The blob's bytes from an offset on, by default to its end. A size beyond
+/// all stores is asked for as one byte too many.
+fn read(pair: &Pair, root: u64, offset: u64, size: Option<u64>) -> Result<Vec<u8>, Refusal> {
+    let length = tjornsaki::length(&pair.pool, &pair.records, root)?;
+    let size = size.unwrap_or_else(|| length.saturating_sub(offset)).min(length + 1);
+    let mut bytes = vec![0; size as usize];
+    tjornsaki::read(&pair.pool, &pair.records, root, offset, &mut bytes)?;
+    Ok(bytes)
+}
+
+pub fn show(words: &Words) -> Result<Answer, Failure> {
+    let (root, leaf) = (words.number(0)?, words.number(1)?);
+    let Pair { pool, records } = place(words)?.load()?;
+    let bytes = tjornsaki::show(&pool, &records, root, leaf)?;
+    let fields = vec![
+        ("root", Json::Number(root)),
+        ("leaf", Json::Number(leaf)),
+        ("offset", Json::Number(leaf * LEAF_BYTES)),
+        ("size", Json::Number(bytes.len() as u64)),
+        ("hex", Json::hex(bytes)),
+    ];
+    Ok(Answer::bytes(bytes.to_vec(), fields))
+}
+
+pub fn audit(words: &Words) -> Result<Answer, Failure> {
+    let pair = place(words)?.load()?;
+    let live = tjornsaki::audit(&pair.pool, &pair.records)?;
+    let slots = (pair.pool.len() / BLOCK_BYTES) as u64;
+    let fields = vec![("live", Json::Number(live)), ("slots", Json::Number(slots))];
+    Ok(Answer::line(format!("sound: {live} of {slots} slots in use"), fields))
+}
+
+pub fn draw(words: &Words) -> Result<Answer, Failure> {
+    let place = place(words)?;
+    let pair = place.load()?;
+    let svg = draw::draw(&pair.pool, &pair.records)?;
+    let slots = (pair.records.len() / RECORD_BYTES) as u64;
+    let mut fields = vec![("slots", Json::Number(slots))];
+    match words.value("--out").filter(|out| *out != "-").map(PathBuf::from) {
+        Some(path) => {
+            place.save(&path, svg.as_bytes())?;
+            Ok(Answer::line(format!("picture of {slots} slots in {}", path.display()), fields))
+        }
+        None => {
+            fields.push(("svg", Json::text(svg.clone())));
+            Ok(Answer::bytes(svg.into_bytes(), fields))
+        }
+    }
+}
