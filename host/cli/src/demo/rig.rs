@@ -69,7 +69,7 @@ impl Rig {
     fn versions(&self, slot: usize) -> String {
         let kept = records(&self.records)[slot].version;
         let handed = block(&self.last_week, slot).map_or(0, |block| block.version());
-        format!("The records say version {kept} for slot {slot}; the block says {handed}.")
+        format!("By the records slot {slot} is at version {kept}, not {handed}.")
     }
 
     /// What the carrier should hand back, with one slot from another place.
@@ -129,7 +129,7 @@ pub fn nights(rig: &Rig) -> [Night; 3] {
         asked: (LIST, "e3b8"),
         harm: "Bug 31 is lost, and hunted a second time.",
         expected: refusal(5, 3),
-        why: "A block carries its own slot number; this one says 1.".into(),
+        why: "A block carries its slot number; this one says 1.".into(),
     };
     let returned = Night {
         name: "deleted",
@@ -138,7 +138,7 @@ pub fn nights(rig: &Rig) -> [Night; 3] {
         asked: (WITHDRAWN, "e3b8"),
         harm: "The stale line matches; bug 31 is ignored.",
         expected: refusal(9, 4),
-        why: "The records say that slot 4 is free; it must hold zeros.".into(),
+        why: "By the records slot 4 is free; it must hold zeros.".into(),
     };
     [old, moved, returned]
 }

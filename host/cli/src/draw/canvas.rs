@@ -122,6 +122,16 @@ pub fn width_of(words: &str, size: i32) -> i32 {
     words.chars().count() as i32 * size * 62 / 100
 }
 
+/// The first few, and how many more there are.
+pub fn shortened(mut words: Vec<String>, most: usize) -> Vec<String> {
+    let more = words.len().saturating_sub(most);
+    words.truncate(most);
+    if more > 0 {
+        words.push(format!("and {more} more"));
+    }
+    words
+}
+
 fn escaped(words: &str) -> String {
     words.replace('&', "&amp;").replace('<', "&lt;").replace('>', "&gt;").replace('"', "&quot;")
 }

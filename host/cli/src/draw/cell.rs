@@ -44,7 +44,7 @@ fn look(cell: &Cell) -> Look {
 }
 
 /// The role in a word, or why the slot is refused.
-fn reason(cell: &Cell) -> String {
+pub fn reason(cell: &Cell) -> String {
     match (cell.refusal, cell.role) {
         (Some(refusal), _) => format!("{} {}", refusal.number, refusal.words()),
         (None, Role::Root) => "root".into(),
@@ -94,7 +94,7 @@ pub fn draw(canvas: &mut Canvas, cell: &Cell, x: i32, y: i32, scale: Scale) {
     canvas.close();
 }
 
-/// A flag below a small refused slot, over what lies there.
+/// A flag below a small refused slot of a tree, over what stands there.
 pub fn flag(canvas: &mut Canvas, cell: &Cell, x: i32, y: i32, scale: Scale) {
     if cell.refusal.is_none() || scale == Scale::Large {
         return;

@@ -1,7 +1,7 @@
 //! All slots by number.
 
-use super::canvas::Canvas;
-use super::cell::{self, Scale};
+use super::canvas::{shortened, Canvas, Pen, RED};
+use super::cell::{self, reason, Scale};
 use super::scene::Scene;
 
 /// Slots side by side.
@@ -26,9 +26,21 @@ pub fn draw(canvas: &mut Canvas, scene: &Scene, left: i32, top: i32) -> i32 {
         let (x, y) = corner(cell.slot);
         cell::draw(canvas, cell, x, y, scale);
     }
-    for cell in scene.refused() {
-        let (x, y) = corner(cell.slot);
-        cell::flag(canvas, cell, x, y, scale);
+    if scale == Scale::Small {
+        notes(canvas, scene, columns, (left + columns as i32 * w + 10, top + h / 2 + 4));
     }
     corner(scene.cells.len().saturating_sub(1)).1 + h
+}
+
+/// Beside each row with small refused slots: which they are, and why.
+fn notes(canvas: &mut Canvas, scene: &Scene, columns: usize, first: (i32, i32)) {
+    for (row, cells) in (0..).zip(scene.cells.chunks(columns)) {
+        let refused = cells.iter().filter(|cell| cell.refusal.is_some());
+        let words: Vec<String> =
+            refused.map(|cell| format!("{}: {}", cell.slot, reason(cell))).collect();
+        if !words.is_empty() {
+            let (x, y) = (first.0, first.1 + row * Scale::Small.size().1);
+            canvas.text(x, y, Pen::left(12, RED).bold(), &shortened(words, 3).join(", "));
+        }
+    }
 }

@@ -1,6 +1,6 @@
 //! The whole page: title, verdict, colours, slots, blobs.
 
-use super::canvas::{width_of, Canvas, Pen, FAINT, GREEN, INK, RED};
+use super::canvas::{shortened, width_of, Canvas, Pen, FAINT, GREEN, INK, RED};
 use super::cell::{self, Scale};
 use super::grid;
 use super::scene::{Blob, Cell, Role, Scene};
@@ -11,6 +11,8 @@ const MARGIN: i32 = 28;
 /// Blobs stand side by side up to here.
 const WIDTH: i32 = 1_640;
 const BETWEEN_BLOBS: i32 = 36;
+/// Refused slots told in words at the top.
+const MOST_TOLD: usize = 12;
 
 pub fn page(scene: &Scene, title: &str) -> String {
     let mut canvas = Canvas::default();
@@ -38,9 +40,10 @@ fn verdict(canvas: &mut Canvas, scene: &Scene, y: i32) -> i32 {
             canvas.text(MARGIN, y, Pen::left(15, RED).bold(), words);
         }
     }
-    for cell in scene.refused() {
+    let refused: Vec<String> = scene.refused().map(told).collect();
+    for words in shortened(refused, MOST_TOLD) {
         y += 20;
-        canvas.text(MARGIN, y, Pen::left(13, RED), &told(cell));
+        canvas.text(MARGIN, y, Pen::left(13, RED), &words);
     }
     y
 }

@@ -1,0 +1,15 @@
+//! Tests of the command line, as a user or a program runs it.
+
+mod commands;
+mod crash;
+mod demo;
+mod disks;
+mod draw;
+mod files;
+mod help;
+mod json;
+mod locks;
+mod numbers;
+mod pipes;
+mod refusals;
+mod support;

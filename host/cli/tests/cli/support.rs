@@ -1,0 +1,152 @@
+//! Runs the command in a folder of its own.
+
+use std::fs;
+use std::io::Write;
+use std::path::PathBuf;
+use std::process::{Command, Stdio};
+
+pub const PROGRAM: &str = env!("CARGO_BIN_EXE_tjornsaki");
+
+/// How a command ended.
+#[derive(Debug)]
+pub struct Ended {
+    pub status: i32,
+    pub out: Vec<u8>,
+    pub err: String,
+}
+
+impl Ended {
+    pub fn text(&self) -> &str {
+        std::str::from_utf8(&self.out).unwrap()
+    }
+
+    /// Passed with this output.
+    #[track_caller]
+    pub fn gives(&self, out: &str) {
+        let found = (self.status, String::from_utf8_lossy(&self.out), self.err.as_str());
+        assert_eq!(found, (0, out.into(), ""));
+    }
+
+    /// Failed with this status, a message with these words, and no output.
+    #[track_caller]
+    pub fn fails(&self, status: i32, words: &str) {
+        assert_eq!(self.status, status, "{self:?}");
+        assert!(self.err.starts_with("tjornsaki: "), "{self:?}");
+        assert!(self.err.contains(words), "{words} in {self:?}");
+        assert!(self.out.is_empty(), "{self:?}");
+        assert_eq!(self.err.lines().count(), 1, "{self:?}");
+    }
+}
+
+/// A folder that goes with the test.
+pub struct Folder {
+    pub path: PathBuf,
+}
+
+impl Drop for Folder {
+    fn drop(&mut self) {
+        let _ = fs::remove_dir_all(&self.path);
+    }
+}
+
+impl Folder {
+    /// An empty folder; `name` is the test's own.
+    pub fn new(name: &str) -> Folder {
+        let path = PathBuf::from(env!("CARGO_TARGET_TMPDIR")).join(name);
+        let _ = fs::remove_dir_all(&path);
+        fs::create_dir_all(&path).unwrap();
+        Folder { path }
+    }
+
+    /// A folder with a store of so many slots.
+    pub fn with_store(name: &str, slots: usize) -> Folder {
+        let folder = Folder::new(name);
+        folder
+            .run(&["init", "--slots", &slots.to_string()])
+            .gives(&format!("{slots} free slots\n"));
+        folder
+    }
+
+    /// A folder with a store of 16 slots and 100 bytes in blob 0.
+    pub fn with_blob(name: &str) -> Folder {
+        let folder = Folder::with_store(name, 16);
+        folder.run(&["create"]).gives("0\n");
+        folder.run_with(&["put", "0"], &hundred()).gives("blob 0 has 100 bytes\n");
+        folder
+    }
+
+    pub fn command(&self) -> Command {
+        let mut command = Command::new(PROGRAM);
+        command.current_dir(&self.path);
+        command.env_remove("TJORNSAKI_POOL").env_remove("TJORNSAKI_RECORDS");
+        command
+    }
+
+    pub fn run(&self, words: &[&str]) -> Ended {
+        self.run_with(words, b"")
+    }
+
+    /// Runs with this input.
+    pub fn run_with(&self, words: &[&str], input: &[u8]) -> Ended {
+        let mut command = self.command();
+        command.args(words).stdin(Stdio::piped()).stdout(Stdio::piped()).stderr(Stdio::piped());
+        let mut child = command.spawn().unwrap();
+        // A command that fails early does not read its input.
+        let _ = child.stdin.take().unwrap().write_all(input);
+        let output = child.wait_with_output().unwrap();
+        let err = String::from_utf8(output.stderr).unwrap();
+        Ended { status: output.status.code().unwrap(), out: output.stdout, err }
+    }
+
+    pub fn file(&self, name: &str) -> PathBuf {
+        self.path.join(name)
+    }
+
+    pub fn read(&self, name: &str) -> Vec<u8> {
+        fs::read(self.file(name)).unwrap()
+    }
+
+    pub fn write(&self, name: &str, bytes: &[u8]) {
+        fs::write(self.file(name), bytes).unwrap();
+    }
+
+    /// The bytes of pool and records; none where a file is missing.
+    pub fn store(&self) -> [Option<Vec<u8>>; 2] {
+        ["store.pool", "store.records"].map(|name| fs::read(self.file(name)).ok())
+    }
+
+    /// All names in the folder, in order.
+    pub fn names(&self) -> Vec<String> {
+        let entries = fs::read_dir(&self.path).unwrap();
+        let name = |entry: fs::DirEntry| entry.file_name().into_string().unwrap();
+        let mut names: Vec<String> = entries.map(|entry| name(entry.unwrap())).collect();
+        names.sort();
+        names
+    }
+
+    /// Changes bytes of the pool from this place on.
+    pub fn spoil(&self, place: usize, bytes: &[u8]) {
+        let mut pool = self.read("store.pool");
+        pool[place..place + bytes.len()].copy_from_slice(bytes);
+        self.write("store.pool", &pool);
+    }
+}
+
+/// 100 bytes, no two neighbours alike.
+pub fn hundred() -> Vec<u8> {
+    (0..100).map(|byte| byte * 2 + 1).collect()
+}
+
+/// Every command that changes a store, with words that would do it.
+pub const CHANGING: [&[&str]; 5] =
+    [&["create"], &["put", "0"], &["write", "0", "0"], &["resize", "0", "7"], &["delete", "0"]];
+
+/// Every command that reads a store.
+pub const READING: [&[&str]; 6] =
+    [&["ls"], &["length", "0"], &["get", "0"], &["show", "0", "0"], &["audit"], &["draw"]];
+
+/// Whether a program can be run.
+pub fn there_is(program: &str) -> bool {
+    let found = Command::new(program).arg("--version").stdout(Stdio::null()).status();
+    found.map_or(false, |status| status.success())
+}
