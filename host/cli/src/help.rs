@@ -14,6 +14,13 @@ pub struct Command {
     pub long: &'static str,
 }
 
+impl Command {
+    /// Whether it changes the store.
+    pub fn changes(&self) -> bool {
+        ["init", "create", "put", "write", "resize", "delete"].contains(&self.name)
+    }
+}
+
 const FILE: &str = "[FILE|-]";
 
 #[rustfmt::skip]

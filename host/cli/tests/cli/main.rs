@@ -5,6 +5,7 @@ mod crash;
 mod demo;
 mod disks;
 mod draw;
+mod faults;
 mod files;
 mod help;
 mod json;

@@ -44,6 +44,9 @@ fn output_that_cannot_be_written() {
     let (status, _, err) = shell(&folder, "$t get 0 > /dev/full");
     assert_eq!(status, 74);
     assert!(err.contains("cannot write to standard output"), "{err}");
+    let (status, _, err) = shell(&folder, "$t resize 0 9 > /dev/full");
+    assert!(status == 74 && err.contains("; the change is made"), "{err}");
+    folder.run(&["length", "0"]).gives("9\n");
     let (status, ..) = shell(&folder, "$t get 9 2> /dev/full");
     assert_eq!(status, 3);
     folder.run(&["get", "0", "/dev/full"]).fails(74, "cannot write /dev/full");
