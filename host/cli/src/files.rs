@@ -54,14 +54,22 @@ pub fn same(one: &Path, other: &Path) -> bool {
     one == other || resolved(one) == resolved(other)
 }
 
+/// Fails if there is something else than a plain file, a pipe say.
+pub fn check_plain(path: &Path) -> Result<(), Failure> {
+    match fs::metadata(path) {
+        Ok(about) if !about.is_file() => {
+            Err(Failure::Other(BROKEN, format!("{} is not a plain file", path.display())))
+        }
+        _ => Ok(()),
+    }
+}
+
 /// Fails unless the file is a plain one that may be written. A new file could
 /// take the place of a read-only one; that is not what its owner wants.
 pub fn check_writable(path: &Path) -> Result<(), Failure> {
     let failed = |error| Failure::file("write", path, &error);
+    check_plain(path)?;
     let about = fs::metadata(path).map_err(failed)?;
-    if !about.is_file() {
-        return Err(Failure::Other(BROKEN, format!("{} is not a plain file", path.display())));
-    }
     if about.permissions().readonly() {
         return Err(Failure::Other(DENIED, format!("{} is read-only", path.display())));
     }

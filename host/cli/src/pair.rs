@@ -21,7 +21,8 @@
 
 use crate::failure::{Failure, EXISTS, MISSING};
 use crate::files::{
-    beside, check_writable, put_in_place, read, remove, resolved, same, save, stage, sync_folder,
+    beside, check_plain, check_writable, put_in_place, read, remove, resolved, same, save, stage,
+    sync_folder,
 };
 use crate::lock::{self, Lock};
 use std::path::{Path, PathBuf};
@@ -113,7 +114,7 @@ impl Place {
         lock::alone(&beside(&self.records, LOCK), self.wait)
     }
 
-    /// Fails if a file is missing, before a lock file is made.
+    /// Fails if a file is missing or is no file, before a lock file is made.
     fn check_present(&self) -> Result<(), Failure> {
         let pool_beside = beside(&self.pool, NEW);
         let missing = |path: &Path| {
@@ -123,7 +124,7 @@ impl Place {
         match (self.records.exists(), self.pool.exists() || pool_beside.exists()) {
             (false, _) => missing(&self.records),
             (true, false) => missing(&self.pool),
-            (true, true) => Ok(()),
+            (true, true) => check_plain(&self.records).and_then(|()| check_plain(&self.pool)),
         }
     }
 

@@ -62,13 +62,24 @@ fn a_folder_is_no_file() {
     let folder = Folder::with_blob("folder");
     fs::create_dir(folder.file("d")).unwrap();
     let before = folder.store();
-    for command in CHANGING {
-        let ended = folder.run(&[command, &["--pool", "d"]].concat());
-        assert_eq!(ended.status, 74, "{ended:?}");
+    for command in READING.iter().chain(&CHANGING) {
+        folder.run(&[*command, &["--pool", "d"]].concat()).fails(74, "d is not a plain file");
     }
     folder.run(&["init", "--force", "--pool", "d"]).fails(74, "d is not a plain file");
     folder.run(&["get", "0", "d"]).fails(74, "cannot write d");
     assert_eq!(folder.store(), before);
+}
+
+#[test]
+fn a_pipe_is_no_file() {
+    let folder = Folder::with_blob("fifo");
+    let made = std::process::Command::new("mkfifo").arg(folder.file("p")).status();
+    if !made.map_or(false, |status| status.success()) {
+        return println!("skipped: no mkfifo");
+    }
+    for command in READING.iter().chain(&CHANGING) {
+        folder.run(&[*command, &["--records", "p"]].concat()).fails(74, "p is not a plain file");
+    }
 }
 
 #[test]
