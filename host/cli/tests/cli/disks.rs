@@ -1,19 +1,21 @@
 //! A full disk and a read-only one, made of memory in a mount space of the
 //! test's own. Without the right to make one, these tests are skipped.
 
-use crate::support::{there_is, Folder, PROGRAM};
+use crate::support::{shell_function, there_is, Folder};
 use std::process::{Command, Output};
 
-/// Runs a script with `d`, a folder to mount a disk on, and `t`, the program.
+/// Runs a script with `$d`, a folder to mount a disk on, and `t`, the program.
 fn apart(folder: &Folder, script: &str) -> Option<Output> {
     std::fs::create_dir(folder.file("disk")).unwrap();
     let run = |script: &str| {
-        let script = format!("t={PROGRAM}; d={}; {script}", folder.file("disk").display());
+        let disk = folder.file("disk");
+        let script = format!("{}\nd='{}'\n{script}", shell_function(), disk.display());
         let words = ["--map-root-user", "--mount", "bash", "-c", script.as_str()];
         Command::new("unshare").args(words).current_dir(&folder.path).output()
     };
     let able = there_is("bash") && there_is("unshare");
-    let tried = able && run("mount -t tmpfs t $d").map_or(false, |tried| tried.status.success());
+    let tried =
+        able && run(r#"mount -t tmpfs t "$d""#).map_or(false, |tried| tried.status.success());
     if !tried {
         println!("skipped: no disk can be mounted here");
         return None;
@@ -25,24 +27,24 @@ fn apart(folder: &Folder, script: &str) -> Option<Output> {
 /// a change of it, which needs as many pages again.
 const FULL: &str = r#"
 set -e
-$t init --slots 1024 >&2; $t create >&2; head -c 40000 /dev/urandom | $t put 0 >&2
+t init --slots 1024 >&2; t create >&2; head -c 40000 /dev/urandom | t put 0 >&2
 head -c 44976 /dev/urandom > input
 page=$(getconf PAGESIZE)
 store=$(((65536 + page - 1) / page + (12288 + page - 1) / page))
 for pages in $(seq $((store + 1)) $((2 * store + 3))); do
-    mount -t tmpfs -o nr_blocks=$pages t $d
-    cp store.pool store.records $d
+    mount -t tmpfs -o nr_blocks=$pages t "$d"
+    cp store.pool store.records "$d"
     status=0
-    (cd $d; $t put 0 ../input) > said 2>&1 || status=$?
+    (cd "$d"; t put 0 ../input) > said 2>&1 || status=$?
     if [ $status = 0 ]; then
-        (cd $d; $t get 0) | cmp - input
+        (cd "$d"; t get 0) | cmp - input
     else
-        cmp $d/store.pool store.pool
-        cmp $d/store.records store.records
+        cmp "$d"/store.pool store.pool
+        cmp "$d"/store.records store.records
         grep -q "cannot write .*: No space left" said
     fi
-    if ls $d | grep tj-new; then exit 1; fi
-    umount $d
+    if ls "$d" | grep tj-new; then exit 1; fi
+    umount "$d"
     echo $status
 done
 "#;
@@ -63,13 +65,13 @@ fn a_full_disk_changes_nothing() {
 }
 
 const READ_ONLY: &str = r#"
-$t init >&2; $t create >&2; echo hello | $t put 0 >&2
-mount -t tmpfs t $d; cp store.pool store.records $d; mount -o remount,ro $d
-cd $d
-$t get 0 || exit 1
-$t audit > /dev/null || exit 1
-$t create; echo $?
-$t init --force; echo $?
+t init >&2; t create >&2; echo hello | t put 0 >&2
+mount -t tmpfs t "$d"; cp store.pool store.records "$d"; mount -o remount,ro "$d"
+cd "$d"
+t get 0 || exit 1
+t audit > /dev/null || exit 1
+t create; echo $?
+t init --force; echo $?
 cmp store.pool ../store.pool && cmp store.records ../store.records
 "#;
 

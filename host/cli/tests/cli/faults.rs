@@ -2,7 +2,7 @@
 //! file. The steps are found and broken by strace; without it, or without the
 //! right to use it, these tests are skipped.
 
-use crate::support::{hundred, Folder, PROGRAM};
+use crate::support::{emulator, hundred, Folder, PROGRAM};
 use std::process::{Command, Output};
 
 /// The calls of the kernel that a change makes on files, by strace's names, and
@@ -30,8 +30,9 @@ fn prepared(name: &str) -> Option<Folder> {
     let folder = Folder::with_blob(name);
     folder.write("input", b"new");
     let tried = Command::new("strace").args(["-qq", "-o", "/dev/null", "true"]).output();
-    if tried.map_or(true, |output| !output.status.success()) {
-        println!("skipped: no strace");
+    let able = tried.map_or(false, |output| output.status.success());
+    if !able || !emulator().is_empty() {
+        println!("skipped: no strace, or an emulator");
         return None;
     }
     Some(folder)

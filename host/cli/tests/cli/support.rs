@@ -7,6 +7,17 @@ use std::process::{Command, Stdio};
 
 pub const PROGRAM: &str = env!("CARGO_BIN_EXE_tjornsaki");
 
+/// The emulator that cargo is told to run programs with, if any.
+pub fn emulator() -> Vec<String> {
+    let words = std::env::var("CARGO_TARGET_X86_64_UNKNOWN_LINUX_GNU_RUNNER").unwrap_or_default();
+    words.split_whitespace().map(String::from).collect()
+}
+
+/// A line for a shell that lets `t` run the program.
+pub fn shell_function() -> String {
+    format!("t() {{ {} '{PROGRAM}' \"$@\"; }}", emulator().join(" "))
+}
+
 /// How a command ended.
 #[derive(Debug)]
 pub struct Ended {
@@ -76,8 +87,9 @@ impl Folder {
     }
 
     pub fn command(&self) -> Command {
-        let mut command = Command::new(PROGRAM);
-        command.current_dir(&self.path);
+        let words = [emulator(), vec![PROGRAM.to_string()]].concat();
+        let mut command = Command::new(&words[0]);
+        command.args(&words[1..]).current_dir(&self.path);
         command.env_remove("TJORNSAKI_POOL").env_remove("TJORNSAKI_RECORDS");
         command
     }
