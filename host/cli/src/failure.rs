@@ -58,6 +58,14 @@ impl Failure {
         }
     }
 
+    /// The same with something added to its words.
+    pub fn with(self, more: &str) -> Failure {
+        match self {
+            Failure::Other(status, words) => Failure::Other(status, format!("{words}; {more}")),
+            other => other,
+        }
+    }
+
     /// The exit status.
     pub fn status(&self) -> u8 {
         match self {

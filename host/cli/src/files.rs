@@ -54,6 +54,15 @@ pub fn same(one: &Path, other: &Path) -> bool {
     one == other || resolved(one) == resolved(other)
 }
 
+/// Whether there is something of this name.
+pub fn is_there(path: &Path) -> Result<bool, Failure> {
+    match fs::metadata(path) {
+        Ok(_) => Ok(true),
+        Err(error) if error.kind() == io::ErrorKind::NotFound => Ok(false),
+        Err(error) => Err(Failure::file("find", path, &error)),
+    }
+}
+
 /// Fails if there is something else than a plain file, a pipe say.
 pub fn check_plain(path: &Path) -> Result<(), Failure> {
     match fs::metadata(path) {

@@ -49,18 +49,12 @@ fn run(args: &[OsString]) -> Result<u8, Told> {
     let told = |failure| (Some(name), failure);
     let answer = commands::run(&words).map_err(told)?;
     let printed = answer.print(name, words.flag("--json"));
-    printed.map_err(|failure| told(unheard(failure, words.command.changes())))?;
+    let made = |failure: Failure| match words.command.changes() {
+        true => failure.with("the change is made"),
+        false => failure,
+    };
+    printed.map_err(made).map_err(told)?;
     Ok(answer.failure.map_or(0, |failure| failure.status()))
-}
-
-/// An answer that could not be printed: a change is made all the same.
-fn unheard(failure: Failure, changes: bool) -> Failure {
-    match failure {
-        Failure::Other(status, words) if changes => {
-            Failure::Other(status, format!("{words}; the change is made"))
-        }
-        other => other,
-    }
 }
 
 fn print(text: &str) -> Result<u8, Told> {

@@ -21,8 +21,8 @@
 
 use crate::failure::{Failure, EXISTS, MISSING};
 use crate::files::{
-    beside, check_plain, check_writable, put_in_place, read, remove, resolved, same, save, stage,
-    sync_folder,
+    beside, check_plain, check_writable, is_there, put_in_place, read, remove, resolved, same,
+    save, stage, sync_folder, MOST_BYTES,
 };
 use crate::lock::{self, Lock};
 use std::path::{Path, PathBuf};
@@ -77,6 +77,7 @@ impl Place {
         let value = call(&mut pair)?;
         if found.beside {
             put_in_place(&beside(&self.pool, NEW), &self.pool)?;
+            sync_folder(&self.pool)?;
         }
         if pair != found.pair {
             self.replace(Some(&found.pair.records), &pair)?;
@@ -88,22 +89,19 @@ impl Place {
     pub fn make(&self, pair: &Pair, force: bool) -> Result<(), Failure> {
         let _lock = self.lock_alone()?;
         for path in [&self.pool, &self.records] {
-            if path.exists() && !force {
-                let words = format!("{} exists; --force replaces it", path.display());
-                return Err(Failure::Other(EXISTS, words));
-            }
-            if path.exists() {
-                check_writable(path)?;
+            if is_there(path)? {
+                check_replaceable(path, force)?;
             }
         }
-        let old = if self.records.exists() { Some(read(&self.records)?) } else { None };
+        let old = if is_there(&self.records)? { Some(read(&self.records)?) } else { None };
         self.replace(old.as_deref(), pair)
     }
 
     /// Writes an output file, which must not be one of the store's own.
     pub fn save(&self, path: &Path, bytes: &[u8]) -> Result<(), Failure> {
-        let lock = beside(&self.records, LOCK);
-        if [&self.pool, &self.records, &lock].iter().any(|own| same(own, path)) {
+        let (pool, records) = (&self.pool, &self.records);
+        let others = [beside(records, LOCK), beside(records, NEW), beside(pool, NEW)];
+        if others.iter().chain([pool, records]).any(|own| same(own, path)) {
             let words = format!("{} belongs to the store", path.display());
             return Err(Failure::usage(words));
         }
@@ -116,16 +114,16 @@ impl Place {
 
     /// Fails if a file is missing or is no file, before a lock file is made.
     fn check_present(&self) -> Result<(), Failure> {
-        let pool_beside = beside(&self.pool, NEW);
-        let missing = |path: &Path| {
-            let words = format!("{} is missing; `tjornsaki init` makes a store", path.display());
-            Err(Failure::Other(MISSING, words))
-        };
-        match (self.records.exists(), self.pool.exists() || pool_beside.exists()) {
-            (false, _) => missing(&self.records),
-            (true, false) => missing(&self.pool),
-            (true, true) => check_plain(&self.records).and_then(|()| check_plain(&self.pool)),
+        let pool = is_there(&self.pool)? || is_there(&beside(&self.pool, NEW))?;
+        for (there, path) in [(is_there(&self.records)?, &self.records), (pool, &self.pool)] {
+            if !there {
+                let words =
+                    format!("{} is missing; `tjornsaki init` makes a store", path.display());
+                return Err(Failure::Other(MISSING, words));
+            }
+            check_plain(path)?;
         }
+        Ok(())
     }
 
     /// Reads both files, and decides which pool is the one.
@@ -134,7 +132,7 @@ impl Place {
         let new = beside(&self.pool, NEW);
         if new.is_file() {
             let staged = read(&new)?;
-            let pool = if self.pool.exists() { read(&self.pool)? } else { Vec::new() };
+            let pool = if is_there(&self.pool)? { read(&self.pool)? } else { Vec::new() };
             let passes = |pool: &[u8]| tjornsaki::audit(pool, &records).is_ok();
             if !passes(&pool) && passes(&staged) {
                 return Ok(Found { pair: Pair { pool: staged, records }, beside: true });
@@ -151,13 +149,13 @@ impl Place {
             .and_then(|()| stage(&records, &pair.records, &self.records))
             .and_then(|()| put_in_place(&records, &self.records));
         if staged.is_err() {
-            let _ = remove(&records).and_then(|()| remove(&pool));
+            let _ = (remove(&records), remove(&pool));
             return staged;
         }
         let done = sync_folder(&self.records).and_then(|()| put_in_place(&pool, &self.pool));
         match done {
             Err(_) if self.put_back(old_records).is_ok() => remove(&pool).and(done),
-            Err(_) => done,
+            Err(failure) => Err(failure.with("the next command finishes the change")),
             // If the disk loses this rename, the pool beside is still there.
             Ok(()) => sync_folder(&self.pool).or(Ok(())),
         }
@@ -174,6 +172,21 @@ impl Place {
             None => remove(&self.records),
         }
     }
+}
+
+/// Fails if a file that `init` finds is not to be replaced. No file of a store
+/// is so long that it could not be put back.
+fn check_replaceable(path: &Path, force: bool) -> Result<(), Failure> {
+    if !force {
+        let words = format!("{} exists; --force replaces it", path.display());
+        return Err(Failure::Other(EXISTS, words));
+    }
+    check_writable(path)?;
+    if read(path)?.len() as u64 > MOST_BYTES {
+        let words = format!("{} is too long for a part of a store", path.display());
+        return Err(Failure::Other(EXISTS, words));
+    }
+    Ok(())
 }
 
 /// A store as found, and whether its pool is the one beside.

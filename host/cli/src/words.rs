@@ -72,18 +72,26 @@ fn first_word(args: &[OsString]) -> Option<usize> {
 
 /// No known command: a question about the program, or a mistake.
 fn without_command(args: &[OsString]) -> Result<Asked, Failure> {
-    let place = first_word(args);
-    let word = place.map(|place| args[place].to_string_lossy());
-    match word.as_deref() {
-        Some("help") => Ok(Asked::Help(args.get(1).and_then(|word| named(word)))),
-        _ if wants_help(args) => Ok(Asked::Help(None)),
+    let mut words = args[first_word(args).unwrap_or(args.len())..].iter();
+    let mut word = words.next();
+    let asks = word.map_or(false, |word| word == "help");
+    if asks {
+        word = words.next();
+    }
+    match word {
+        None if asks || wants_help(args) => Ok(Asked::Help(None)),
         None if args.iter().any(|word| word == "--version" || word == "-V") => Ok(Asked::Version),
         None => Err(Failure::usage("no command; `tjornsaki --help` lists them")),
-        Some(word) => {
-            let words = format!("unknown command `{word}`; `tjornsaki --help` lists them");
-            Err(Failure::usage(words))
-        }
+        Some(word) => match named(word) {
+            Some(command) => Ok(Asked::Help(Some(command))),
+            None => Err(unknown(word)),
+        },
     }
+}
+
+fn unknown(word: &OsStr) -> Failure {
+    let word = word.to_string_lossy();
+    Failure::usage(format!("unknown command `{word}`; `tjornsaki --help` lists them"))
 }
 
 fn named(word: &OsStr) -> Option<&'static Command> {
@@ -183,6 +191,6 @@ impl Words {
 
     pub fn wait(&self) -> Result<Duration, Failure> {
         let seconds = self.number_of("--wait")?.unwrap_or(0);
-        Ok(Duration::from_secs(seconds.min(86_400)))
+        Ok(Duration::from_secs(seconds))
     }
 }

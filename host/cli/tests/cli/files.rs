@@ -86,11 +86,34 @@ fn a_pipe_is_no_file() {
 fn output_never_replaces_the_store() {
     let folder = Folder::with_blob("own_files");
     let before = folder.store();
-    for own in ["store.pool", "./store.records", "store.records.tj-lock"] {
+    let names = ["store.pool", "./store.records", "store.records.tj-lock", "store.pool.tj-new"];
+    for own in names {
         folder.run(&["get", "0", own]).fails(64, "belongs to the store");
         folder.run(&["draw", "--out", own]).fails(64, "belongs to the store");
     }
     assert_eq!(folder.store(), before);
+}
+
+#[test]
+fn init_replaces_no_long_files() {
+    let folder = Folder::with_blob("long");
+    let long = vec![1; 1_000_000];
+    for name in ["store.pool", "store.records"] {
+        let before = folder.read(name);
+        folder.write(name, &long);
+        folder.run(&["init", "--force"]).fails(73, &format!("{name} is too long"));
+        assert_eq!(folder.read(name), long);
+        folder.write(name, &before);
+    }
+}
+
+#[test]
+fn a_path_through_a_file() {
+    let folder = Folder::with_blob("through");
+    for command in READING.iter().chain(&CHANGING) {
+        let words = [*command, &["--pool", "store.records/p"]].concat();
+        folder.run(&words).fails(74, "store.records/p");
+    }
 }
 
 #[test]

@@ -48,7 +48,8 @@ fn version() {
 fn wrong_words() {
     let folder = Folder::with_blob("words");
     let before = folder.store();
-    let cases: [(&[&str], &str); 10] = [
+    let cases: [(&[&str], &str); 11] = [
+        (&["help", "frobnicate"], "unknown command `frobnicate`"),
         (&[], "no command"),
         (&["frobnicate"], "unknown command `frobnicate`"),
         (&["get"], "ROOT is missing"),
