@@ -31,10 +31,12 @@ pub struct Lock {
     _file: File,
 }
 
-/// The lock of a command that changes the store: nobody else has any.
+/// The lock of a command that changes the store: nobody else has any. A lock
+/// file that another user made can be locked too.
 pub fn alone(path: &Path, wait: Duration) -> Result<Lock, Failure> {
     let mut options = OpenOptions::new();
     let file = options.read(true).append(true).create(true).open(path);
+    let file = file.or_else(|error| File::open(path).map_err(|_| error));
     take(file.map_err(|error| Failure::file("open the lock", path, &error))?, ALONE, path, wait)
 }
 
