@@ -39,8 +39,9 @@ fn successes() {
 #[test]
 fn refusals() {
     let folder = Folder::with_blob("json_refused");
-    let no_slot = r#"{"ok":false,"command":"get","status":3,"refusal":3,"words":"not a root","slot":null,"message":"refused 3: the named slot is not a root"}"#;
-    is(&folder.run(&["get", "9", "--json"]), 3, no_slot);
+    let head = r#"{"ok":false,"command":"get","status":3,"refusal":3,"words":"not a root""#;
+    let rest = r#""slot":null,"message":"refused 3: the named slot is not a root"}"#;
+    is(&folder.run(&["get", "9", "--json"]), 3, &format!("{head},{rest}"));
     folder.spoil(2 * 64 + 8, &[1]);
     let slot = r#""status":6,"refusal":6,"words":"rolled back","slot":2,"message":"refused 6: slot 2 was rolled back""#;
     let audit = folder.run(&["audit", "--json"]);
