@@ -1,0 +1,180 @@
+//! The calls that are measured, each on a store of each fill and size.
+
+use crate::stores::{blocks, data, store, Fill, Store, BLOCK, FILLS, LEAF, RECORD, SIZES};
+
+/// One call with its words: a number for what it answers.
+pub type Call = Box<dyn Fn(&mut Store, &mut [u8]) -> u64>;
+
+pub struct Case {
+    /// Its name in tables.
+    pub name: &'static str,
+    pub changes: bool,
+    pub fill: Fill,
+    pub slots: usize,
+    /// The store before the call.
+    pub before: Store,
+    /// How many bytes are lent for the output.
+    pub output: usize,
+    /// The bytes that the call has to read or write, each counted once.
+    pub touched: usize,
+    /// The bytes of the pool among them.
+    pub pool_bytes: usize,
+    pub proved: Call,
+    pub reference: Call,
+}
+
+/// Names of the cases in the order of the tables.
+pub const NAMES: [&str; 14] = [
+    "length",
+    "read, whole blob",
+    "read, 48 bytes",
+    "show, last leaf",
+    "audit",
+    "wipe",
+    "create",
+    "write, whole blob",
+    "write, 48 bytes",
+    "resize, from 0 to all",
+    "resize, all to 0",
+    "resize, one leaf more",
+    "resize, one leaf less",
+    "delete",
+];
+
+/// How many of them, the first, only read.
+pub const READING: usize = 5;
+
+/// Every case, small stores first.
+pub fn all() -> Vec<Case> {
+    let mut cases = Vec::new();
+    for fill in FILLS {
+        for slots in SIZES {
+            cases.extend(NAMES.iter().map(|name| case(name, fill, slots)));
+        }
+    }
+    cases
+}
+
+/// The same function of the two sides, over slices.
+macro_rules! both {
+    ($case:expr, |$store:ident, $out:ident, $side:ident| $body:expr) => {{
+        let proved: Call = Box::new(move |$store, $out| {
+            use tjornsaki as $side;
+            $body
+        });
+        let reference: Call = Box::new(move |$store, $out| {
+            use reference as $side;
+            $body
+        });
+        ($case.proved, $case.reference) = (proved, reference);
+    }};
+}
+
+fn case(name: &'static str, fill: Fill, slots: usize) -> Case {
+    let spare = match name {
+        "create" => 1,
+        "resize, one leaf more" => 4,
+        _ => 0,
+    };
+    let (mut before, root, length) = store(fill, slots, spare);
+    if name == "resize, from 0 to all" {
+        cut(&mut before, root);
+    }
+    let index = NAMES.iter().position(|other| *other == name).unwrap_or(0);
+    let checks_one_blob = index < READING && name != "audit";
+    let pool_bytes = BLOCK * if checks_one_blob { blocks(length) } else { slots };
+    let lent = match name {
+        "read, whole blob" | "write, whole blob" => length,
+        "read, 48 bytes" | "write, 48 bytes" => LEAF,
+        _ => 0,
+    };
+    let mut case = Case {
+        name,
+        changes: index >= READING,
+        fill,
+        slots,
+        before,
+        output: if index < READING { lent } else { 0 },
+        touched: RECORD * slots + pool_bytes + lent,
+        pool_bytes,
+        proved: Box::new(|_, _| 0),
+        reference: Box::new(|_, _| 0),
+    };
+    if case.changes {
+        set_changing(&mut case, root, length);
+    } else {
+        set_reading(&mut case, root, length);
+    }
+    case
+}
+
+/// Makes the blob empty.
+fn cut(store: &mut Store, root: u64) {
+    tjornsaki::resize(&mut store.pool, &mut store.records, root, 0).expect("shorter");
+}
+
+fn set_reading(case: &mut Case, root: u64, length: usize) {
+    let middle = (length / LEAF / 2 * LEAF) as u64;
+    match case.name {
+        "length" => both!(case, |s, _out, side| side::length(&s.pool, &s.records, root).unwrap()),
+        "read, whole blob" => both!(case, |s, out, side| {
+            side::read(&s.pool, &s.records, root, 0, out).map_or(1, |_| 0)
+        }),
+        "read, 48 bytes" => both!(case, |s, out, side| {
+            side::read(&s.pool, &s.records, root, middle, out).map_or(1, |_| 0)
+        }),
+        "show, last leaf" => set_show(case, root, (length / LEAF - 1) as u64),
+        _ => both!(case, |s, _out, side| side::audit(&s.pool, &s.records).unwrap()),
+    }
+}
+
+/// The two sides answer differently: a slice, and where it lies.
+fn set_show(case: &mut Case, root: u64, leaf: u64) {
+    case.proved = Box::new(move |s, _| {
+        let part = tjornsaki::show(&s.pool, &s.records, root, leaf).unwrap();
+        u64::from(part[0]) * 256 + part.len() as u64
+    });
+    case.reference = Box::new(move |s, _| {
+        let (start, size) = reference::show(&s.pool, &s.records, root, leaf).unwrap();
+        u64::from(s.pool[start]) * 256 + size as u64
+    });
+}
+
+fn set_changing(case: &mut Case, root: u64, length: usize) {
+    let whole = data(length, 2);
+    let middle = (length / LEAF / 2 * LEAF) as u64;
+    match case.name {
+        "wipe" => both!(case, |s, _out, side| {
+            side::wipe(&mut s.pool, &mut s.records).map_or(1, |_| 0)
+        }),
+        "create" => {
+            both!(case, |s, _out, side| side::create(&mut s.pool, &mut s.records).unwrap())
+        }
+        "write, whole blob" => set_write(case, root, 0, whole),
+        "write, 48 bytes" => set_write(case, root, middle, data(LEAF, 2)),
+        "resize, from 0 to all" => set_resize(case, root, length),
+        "resize, all to 0" => set_resize(case, root, 0),
+        "resize, one leaf more" => set_resize(case, root, length + LEAF),
+        "resize, one leaf less" => set_resize(case, root, length - LEAF),
+        _ => both!(case, |s, _out, side| {
+            side::delete(&mut s.pool, &mut s.records, root).map_or(1, |_| 0)
+        }),
+    }
+}
+
+fn set_write(case: &mut Case, root: u64, offset: u64, bytes: Vec<u8>) {
+    let again = bytes.clone();
+    case.proved = Box::new(move |s, _| {
+        tjornsaki::write(&mut s.pool, &mut s.records, root, offset, &bytes).map_or(1, |_| 0)
+    });
+    case.reference = Box::new(move |s, _| {
+        reference::write(&mut s.pool, &mut s.records, root, offset, &again).map_or(1, |_| 0)
+    });
+}
+
+fn set_resize(case: &mut Case, root: u64, length: usize) {
+    let length = length as u64;
+    both!(case, |s, _out, side| {
+        side::resize(&mut s.pool, &mut s.records, root, length).map_or(1, |_| 0)
+    });
+}

@@ -1,0 +1,103 @@
+//! Measures the proved library beside the reference and beside a plain copy of
+//! the bytes that a call touches. host/benchmark runs it.
+//!
+//!     bench count                   each call once, to be counted by valgrind
+//!     bench write FOLDER ROUNDS MACHINE COUNTS PROFILE
+//!                                   measures, and writes BENCHMARKS.md and benchmarks.svg
+
+mod aims;
+mod cases;
+mod counts;
+mod measure;
+mod page;
+mod plot;
+mod stores;
+
+use cases::{Call, Case};
+use std::path::Path;
+use std::{env, fs, process};
+use stores::Store;
+
+fn main() {
+    let words: Vec<String> = env::args().skip(1).collect();
+    let words: Vec<&str> = words.iter().map(String::as_str).collect();
+    let done = match words[..] {
+        ["count"] => count(),
+        ["write", folder, rounds, machine, counts, profile] => {
+            write(folder, rounds, machine, counts, profile)
+        }
+        _ => Err("usage: bench count | bench write FOLDER ROUNDS MACHINE COUNTS PROFILE".into()),
+    };
+    if let Err(why) = done {
+        eprintln!("bench: {}", why);
+        process::exit(1);
+    }
+}
+
+/// Makes each call once on each side, inside `counted_call`, and prints a line
+/// for each, in the same order.
+fn count() -> Result<(), String> {
+    let cases = cases::all();
+    let mut sum = 0u64;
+    for case in &cases {
+        for (side, call) in [("proved", &case.proved), ("reference", &case.reference)] {
+            let (mut store, mut output) = (case.before.clone(), vec![0; case.output]);
+            sum = sum.wrapping_add(counted_call(call, &mut store, &mut output));
+            println!("{}\t{}\t{}\t{}", case.name, case.fill.word(), case.slots, side);
+        }
+    }
+    eprintln!("sum {:x}", sum);
+    Ok(())
+}
+
+/// What valgrind counts the instructions of.
+#[inline(never)]
+#[no_mangle]
+pub fn counted_call(call: &Call, store: &mut Store, output: &mut [u8]) -> u64 {
+    call(store, output)
+}
+
+fn write(
+    folder: &str,
+    rounds: &str,
+    machine: &str,
+    counts: &str,
+    profile: &str,
+) -> Result<(), String> {
+    let rounds: usize = rounds.parse().map_err(|_| "the number of rounds is no number")?;
+    let counts = counts::counts(&fs::read_to_string(counts).unwrap_or_default());
+    let profile = fs::read_to_string(profile).unwrap_or_default();
+    let cases = cases::all();
+    for case in &cases {
+        same_outcome(case)?;
+    }
+    let times = measure::measure(&cases, rounds.max(1));
+    let results: Vec<page::Result> =
+        cases.iter().zip(times).map(|(case, times)| page::Result::new(case, times)).collect();
+    let page = page::page(&results, machine, rounds.max(1), &counts, &profile);
+    let plot = plot::plot(&results, machine);
+    put(&Path::new(folder).join("BENCHMARKS.md"), &page)?;
+    put(&Path::new(folder).join("benchmarks.svg"), &plot)
+}
+
+fn put(path: &Path, text: &str) -> Result<(), String> {
+    fs::write(path, text).map_err(|why| format!("{}: {}", path.display(), why))
+}
+
+/// Both sides have to do the same, or there is nothing to compare.
+fn same_outcome(case: &Case) -> Result<(), String> {
+    let run = |call: &Call| {
+        let (mut store, mut output) = (case.before.clone(), vec![0; case.output]);
+        let answer = call(&mut store, &mut output);
+        (answer, store, output)
+    };
+    let (proved, reference) = (run(&case.proved), run(&case.reference));
+    if proved != reference {
+        return Err(format!("{} differs at {} slots", case.name, case.slots));
+    }
+    let succeeded = proved.0 == 0 || !case.changes || case.name == "create";
+    if !succeeded || (case.changes && case.name != "wipe" && proved.1 == case.before) {
+        return Err(format!("{} was refused at {} slots", case.name, case.slots));
+    }
+    Ok(())
+}

@@ -1,0 +1,143 @@
+//! Times, in one run: library, reference and copy in turn, many times over.
+
+use crate::cases::{Call, Case};
+use crate::stores::Store;
+use std::time::Instant;
+
+/// Nanoseconds of one call, medians.
+#[derive(Clone, Copy)]
+pub struct Times {
+    pub proved: f64,
+    pub reference: f64,
+    /// A plain copy of as many bytes as the call touches.
+    pub copy: f64,
+    /// A plain copy of as many bytes as it touches in the pool.
+    pub copy_pool: f64,
+}
+
+/// About how many bytes of stores are worked on between two looks at the clock.
+const BATCH_BYTES: usize = 32 * 1024;
+
+/// How many samples follow one another on one case.
+const IN_A_ROW: usize = 10;
+
+/// One case with its copies of the store, and what was measured of it so far.
+struct Trial<'a> {
+    case: &'a Case,
+    stores: Vec<Store>,
+    output: Vec<u8>,
+    from: Vec<u8>,
+    to: Vec<u8>,
+    samples: [Vec<f64>; 4],
+    sum: u64,
+}
+
+/// Measures every case, `rounds` times over the whole list.
+pub fn measure(cases: &[Case], rounds: usize) -> Vec<Times> {
+    let empty = clock();
+    let mut trials: Vec<Trial> = cases.iter().map(Trial::new).collect();
+    for round in 0..rounds {
+        for trial in &mut trials {
+            trial.round(round, empty);
+        }
+        eprint!("\rround {} of {}", round + 1, rounds);
+    }
+    eprintln!(" (sum {:x})", trials.iter().fold(0u64, |sum, trial| sum.wrapping_add(trial.sum)));
+    trials.iter_mut().map(Trial::times).collect()
+}
+
+/// What two looks at the clock with nothing between them take, median.
+fn clock() -> f64 {
+    let mut samples: Vec<f64> = (0..10_001)
+        .map(|_| {
+            let start = Instant::now();
+            start.elapsed().as_nanos() as f64
+        })
+        .collect();
+    median(&mut samples)
+}
+
+/// The value in the middle.
+fn median(samples: &mut [f64]) -> f64 {
+    samples.sort_by(|a, b| a.total_cmp(b));
+    samples[samples.len() / 2]
+}
+
+impl Trial<'_> {
+    fn new(case: &Case) -> Trial<'_> {
+        let size = case.before.pool.len() + case.before.records.len();
+        let batch = (BATCH_BYTES / size).max(1);
+        Trial {
+            case,
+            stores: vec![case.before.clone(); batch],
+            output: vec![0; case.output],
+            from: vec![7; case.touched],
+            to: vec![0; case.touched],
+            samples: [Vec::new(), Vec::new(), Vec::new(), Vec::new()],
+            sum: 0,
+        }
+    }
+
+    /// Some samples of each kind in turn, after one that is not counted. Library
+    /// and reference change places from round to round.
+    fn round(&mut self, round: usize, empty: f64) {
+        let case = self.case;
+        for sample in 0..=IN_A_ROW {
+            let mut kinds = [0, 1, 2, 3];
+            if (round + sample) % 2 == 1 {
+                kinds.swap(0, 1);
+            }
+            for kind in kinds {
+                let nanoseconds = match kind {
+                    0 => self.call(&case.proved),
+                    1 => self.call(&case.reference),
+                    2 => self.copy(case.touched),
+                    _ => self.copy(case.pool_bytes),
+                };
+                if sample > 0 {
+                    let one = (nanoseconds - empty).max(0.0) / self.stores.len() as f64;
+                    self.samples[kind].push(one);
+                }
+            }
+        }
+    }
+
+    /// The call on each of the copies, which are made afresh before.
+    fn call(&mut self, call: &Call) -> f64 {
+        for store in &mut self.stores {
+            store.refresh(&self.case.before);
+        }
+        let start = Instant::now();
+        for store in &mut self.stores {
+            self.sum = self.sum.wrapping_add(call(store, &mut self.output));
+        }
+        start.elapsed().as_nanos() as f64
+    }
+
+    /// A plain copy of so many bytes, as often as there are stores.
+    fn copy(&mut self, bytes: usize) -> f64 {
+        let start = Instant::now();
+        for _ in 0..self.stores.len() {
+            plain_copy(&mut self.to[..bytes], &self.from[..bytes]);
+        }
+        let time = start.elapsed().as_nanos() as f64;
+        self.sum = self.sum.wrapping_add(u64::from(self.to[bytes / 2]));
+        time
+    }
+
+    fn times(&mut self) -> Times {
+        let [proved, reference, copy, copy_pool] = &mut self.samples;
+        Times {
+            proved: median(proved),
+            reference: median(reference),
+            copy: median(copy),
+            copy_pool: median(copy_pool),
+        }
+    }
+}
+
+/// memcpy, kept as a call of its own.
+#[inline(never)]
+fn plain_copy(to: &mut [u8], from: &[u8]) {
+    to.copy_from_slice(from);
+}

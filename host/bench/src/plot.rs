@@ -1,0 +1,170 @@
+//! The plot, drawn as SVG: times over the reference's, and times per slot.
+
+use crate::aims::{self, CHANGING_MOST, READING_MOST};
+use crate::cases::{NAMES, READING};
+use crate::page::Result;
+use crate::stores::{Fill, SIZES};
+use std::fmt::Write;
+
+const WIDTH: f64 = 430.0;
+const HEIGHT: f64 = 300.0;
+const COLOURS: [&str; 9] = [
+    "#1b6ca8", "#d1495b", "#2e933c", "#8d5a97", "#e08e1b", "#3a3a3a", "#17a2a2", "#a0522d",
+    "#c2185b",
+];
+
+/// One field of the plot: a value for each size, for some calls, on scales of powers.
+struct Field<'a> {
+    title: &'a str,
+    names: &'a [&'a str],
+    left: f64,
+    top: f64,
+    ticks: Vec<f64>,
+    aim: Option<f64>,
+    value: &'a dyn Fn(&Result) -> f64,
+}
+
+pub fn plot(results: &[Result], machine: &str) -> String {
+    let (reading, changing) = NAMES.split_at(READING);
+    let ratio: &dyn Fn(&Result) -> f64 = &Result::ratio;
+    let per_slot: &dyn Fn(&Result) -> f64 = &Result::per_slot;
+    let fields = [
+        ("reading calls: time over the reference's", reading, 0.0, 0.0, Some(READING_MOST), ratio),
+        (
+            "changing calls: time over the reference's",
+            changing,
+            1.0,
+            0.0,
+            Some(CHANGING_MOST),
+            ratio,
+        ),
+        ("reading calls: nanoseconds per slot", reading, 0.0, 1.0, None, per_slot),
+        ("changing calls: nanoseconds per slot", changing, 1.0, 1.0, None, per_slot),
+    ];
+    let mut svg = String::from(
+        "<svg xmlns=\"http://www.w3.org/2000/svg\" viewBox=\"0 0 1320 800\" width=\"1320\" height=\"800\" \
+         font-family=\"sans-serif\" font-size=\"13\">\n<rect width=\"1320\" height=\"800\" fill=\"white\"/>\n",
+    );
+    let head = "The proved library, one blob that fills the pool: lower is better";
+    text(&mut svg, 60.0, 26.0, "start", &format!("font-size=\"17\">{}", head));
+    text(&mut svg, 60.0, 46.0, "start", &format!("fill=\"#555\">{}", machine));
+    for (title, names, column, row, aim, value) in fields {
+        let (left, top) = (60.0 + 650.0 * column, 90.0 + 365.0 * row);
+        let ticks = ticks(results, names, aim, value);
+        draw(&mut svg, results, &Field { title, names, left, top, ticks, aim, value });
+    }
+    svg + "</svg>\n"
+}
+
+/// Powers of two, from below the least value to above the greatest.
+fn ticks(
+    results: &[Result],
+    names: &[&str],
+    aim: Option<f64>,
+    value: &dyn Fn(&Result) -> f64,
+) -> Vec<f64> {
+    let full = |result: &&Result| result.fill == Fill::Full && names.contains(&result.name);
+    let mut values: Vec<f64> = results.iter().filter(full).map(value).collect();
+    values.extend(aim);
+    let least = values.iter().copied().fold(f64::MAX, f64::min).max(0.001).log2().floor() as i32;
+    let most = values.iter().copied().fold(0.0, f64::max).log2().ceil() as i32;
+    (least..=most.max(least + 1)).map(|power| 2f64.powi(power)).collect()
+}
+
+fn draw(svg: &mut String, results: &[Result], field: &Field) {
+    text(
+        svg,
+        field.left,
+        field.top - 12.0,
+        "start",
+        &format!("font-weight=\"bold\">{}", field.title),
+    );
+    for tick in &field.ticks {
+        let y = field.y(*tick);
+        line(svg, (field.left, y), (field.left + WIDTH, y), "stroke=\"#ddd\"");
+        text(svg, field.left - 6.0, y + 4.0, "end", &format!(">{}", tick));
+    }
+    for (index, slots) in SIZES.iter().enumerate() {
+        let x = field.x(index);
+        line(svg, (x, field.top), (x, field.top + HEIGHT), "stroke=\"#eee\"");
+        text(svg, x, field.top + HEIGHT + 18.0, "middle", &format!(">{} slots", slots));
+    }
+    if let Some(aim) = field.aim {
+        let y = field.y(aim);
+        let dashes = "stroke=\"black\" stroke-width=\"1.5\" stroke-dasharray=\"7 5\"";
+        line(svg, (field.left, y), (field.left + WIDTH, y), dashes);
+        text(svg, field.left + 4.0, y - 5.0, "start", &format!(">aim: at most {}", aim));
+    }
+    let mut labels = field.curves(svg, results);
+    spread(&mut labels);
+    for (y, index) in labels {
+        let colour = COLOURS[index % COLOURS.len()];
+        let words = format!("fill=\"{}\">{}", colour, field.names[index]);
+        text(svg, field.left + WIDTH + 2.0, y + 4.0, "start", &words);
+    }
+}
+
+impl Field<'_> {
+    fn x(&self, index: usize) -> f64 {
+        self.left + 30.0 + (WIDTH - 60.0) * index as f64 / (SIZES.len() - 1) as f64
+    }
+
+    fn y(&self, value: f64) -> f64 {
+        let (least, most) = (self.ticks[0].log2(), self.ticks[self.ticks.len() - 1].log2());
+        let part = (value.max(self.ticks[0]).log2() - least) / (most - least);
+        self.top + HEIGHT * (1.0 - part)
+    }
+
+    /// Draws a curve for each call, and says how high each ends.
+    fn curves(&self, svg: &mut String, results: &[Result]) -> Vec<(f64, usize)> {
+        let mut ends = Vec::new();
+        for (index, name) in self.names.iter().enumerate() {
+            let colour = COLOURS[index % COLOURS.len()];
+            let mut points = String::new();
+            let mut end = 0.0;
+            for (at, slots) in SIZES.iter().enumerate() {
+                let x = self.x(at);
+                end = self.y((self.value)(aims::find(results, name, Fill::Full, *slots)));
+                let _ = write!(points, "{:.1},{:.1} ", x, end);
+                let _ = writeln!(
+                    svg,
+                    "<circle cx=\"{:.1}\" cy=\"{:.1}\" r=\"3\" fill=\"{}\"/>",
+                    x, end, colour
+                );
+            }
+            let _ = writeln!(
+                svg,
+                "<polyline points=\"{}\" fill=\"none\" stroke=\"{}\" stroke-width=\"2\"/>",
+                points.trim_end(),
+                colour
+            );
+            ends.push((end, index));
+        }
+        ends
+    }
+}
+
+/// Moves names apart that would lie on one another.
+fn spread(labels: &mut [(f64, usize)]) {
+    labels.sort_by(|a, b| a.0.total_cmp(&b.0));
+    for at in 1..labels.len() {
+        labels[at].0 = labels[at].0.max(labels[at - 1].0 + 16.0);
+    }
+}
+
+fn line(svg: &mut String, from: (f64, f64), to: (f64, f64), stroke: &str) {
+    let (x1, y1, x2, y2) = (from.0, from.1, to.0, to.1);
+    let _ = writeln!(
+        svg,
+        "<line x1=\"{x1:.1}\" y1=\"{y1:.1}\" x2=\"{x2:.1}\" y2=\"{y2:.1}\" {stroke}/>"
+    );
+}
+
+/// `words` starts with further attributes and a '>'.
+fn text(svg: &mut String, x: f64, y: f64, anchor: &str, words: &str) {
+    let gap = if words.starts_with('>') { "" } else { " " };
+    let _ = writeln!(
+        svg,
+        "<text x=\"{x:.1}\" y=\"{y:.1}\" text-anchor=\"{anchor}\"{gap}{words}</text>"
+    );
+}
