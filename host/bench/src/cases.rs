@@ -44,15 +44,15 @@ pub const NAMES: [&str; 14] = [
 /// How many of them, the first, only read.
 pub const READING: usize = 5;
 
-/// Every case, small stores first.
+/// Every case.
 pub fn all() -> Vec<Case> {
-    let mut cases = Vec::new();
-    for fill in FILLS {
-        for slots in SIZES {
-            cases.extend(NAMES.iter().map(|name| case(name, fill, slots)));
-        }
-    }
-    cases
+    FILLS.into_iter().flat_map(of_fill).collect()
+}
+
+/// The cases of one fill, small stores first.
+pub fn of_fill(fill: Fill) -> Vec<Case> {
+    let of_size = |slots| NAMES.iter().map(move |name| case(name, fill, slots));
+    SIZES.into_iter().flat_map(of_size).collect()
 }
 
 /// The same function of the two sides, over slices.

@@ -16,7 +16,7 @@ mod stores;
 use cases::{Call, Case};
 use std::path::Path;
 use std::{env, fs, process};
-use stores::Store;
+use stores::{Fill, Store};
 
 fn main() {
     let words: Vec<String> = env::args().skip(1).collect();
@@ -37,12 +37,12 @@ fn main() {
 /// Makes each call once on each side, inside `counted_call`, and prints a line
 /// for each, in the same order.
 fn count() -> Result<(), String> {
-    let cases = cases::all();
+    let cases = cases::of_fill(Fill::Full);
     let mut sum = 0u64;
     for case in &cases {
         for (side, call) in [("proved", &case.proved), ("reference", &case.reference)] {
             let (mut store, mut output) = (case.before.clone(), vec![0; case.output]);
-            sum = sum.wrapping_add(counted_call(call, &mut store, &mut output));
+            sum = sum.wrapping_add(one_case(call, &mut store, &mut output));
             println!("{}\t{}\t{}\t{}", case.name, case.fill.word(), case.slots, side);
         }
     }
@@ -50,7 +50,14 @@ fn count() -> Result<(), String> {
     Ok(())
 }
 
-/// What valgrind counts the instructions of.
+/// What valgrind writes a list of its own for.
+#[inline(never)]
+#[no_mangle]
+pub fn one_case(call: &Call, store: &mut Store, output: &mut [u8]) -> u64 {
+    counted_call(call, store, output).wrapping_add(1)
+}
+
+/// What it counts the instructions of.
 #[inline(never)]
 #[no_mangle]
 pub fn counted_call(call: &Call, store: &mut Store, output: &mut [u8]) -> u64 {

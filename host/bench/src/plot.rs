@@ -89,19 +89,26 @@ fn draw(svg: &mut String, results: &[Result], field: &Field) {
         line(svg, (x, field.top), (x, field.top + HEIGHT), "stroke=\"#eee\"");
         text(svg, x, field.top + HEIGHT + 18.0, "middle", &format!(">{} slots", slots));
     }
-    if let Some(aim) = field.aim {
-        let y = field.y(aim);
-        let dashes = "stroke=\"black\" stroke-width=\"1.5\" stroke-dasharray=\"7 5\"";
-        line(svg, (field.left, y), (field.left + WIDTH, y), dashes);
-        text(svg, field.left + 4.0, y - 5.0, "start", &format!(">aim: at most {}", aim));
-    }
     let mut labels = field.curves(svg, results);
+    if let Some(aim) = field.aim {
+        draw_aim(svg, field, aim);
+    }
     spread(&mut labels);
     for (y, index) in labels {
         let colour = COLOURS[index % COLOURS.len()];
         let words = format!("fill=\"{}\">{}", colour, field.names[index]);
         text(svg, field.left + WIDTH + 2.0, y + 4.0, "start", &words);
     }
+}
+
+/// The dashed line of an aim, with its words on white.
+fn draw_aim(svg: &mut String, field: &Field, aim: f64) {
+    let y = field.y(aim);
+    let dashes = "stroke=\"black\" stroke-width=\"1.5\" stroke-dasharray=\"7 5\"";
+    line(svg, (field.left, y), (field.left + WIDTH, y), dashes);
+    let words =
+        format!("stroke=\"white\" stroke-width=\"5\" paint-order=\"stroke\">aim: at most {}", aim);
+    text(svg, field.left + 46.0, y - 6.0, "start", &words);
 }
 
 impl Field<'_> {
