@@ -2,6 +2,7 @@
 //! the bytes that a call touches. host/benchmark runs it.
 //!
 //!     bench count                   each call once, to be counted by valgrind
+//!     bench repeat CALL SLOTS TIMES one call of the library on a full pool, to be sampled by perf
 //!     bench write FOLDER ROUNDS MACHINE COUNTS PROFILE
 //!                                   measures, and writes BENCHMARKS.md and benchmarks.svg
 
@@ -23,10 +24,13 @@ fn main() {
     let words: Vec<&str> = words.iter().map(String::as_str).collect();
     let done = match words[..] {
         ["count"] => count(),
+        ["repeat", name, slots, times] => repeat(name, slots, times),
         ["write", folder, rounds, machine, counts, profile] => {
             write(folder, rounds, machine, counts, profile)
         }
-        _ => Err("usage: bench count | bench write FOLDER ROUNDS MACHINE COUNTS PROFILE".into()),
+        _ => Err("usage: bench count | bench repeat CALL SLOTS TIMES \
+                  | bench write FOLDER ROUNDS MACHINE COUNTS PROFILE"
+            .into()),
     };
     if let Err(why) = done {
         eprintln!("bench: {}", why);
@@ -47,6 +51,20 @@ fn count() -> Result<(), String> {
         }
     }
     eprintln!("sum {:x}", sum);
+    Ok(())
+}
+
+/// One call of the library again and again, on a fresh copy each time.
+fn repeat(name: &str, slots: &str, times: &str) -> Result<(), String> {
+    let times: usize = times.parse().map_err(|_| "the number of times is no number")?;
+    let fits = |case: &&Case| case.name == name && case.slots.to_string() == slots;
+    let cases = cases::of_fill(Fill::Full);
+    let case = cases.iter().find(fits).ok_or("there is no such call, or no such size")?;
+    let (mut store, mut output) = (case.before.clone(), vec![0; case.output]);
+    for _ in 0..times {
+        store.refresh(&case.before);
+        (case.proved)(&mut store, &mut output);
+    }
     Ok(())
 }
 
