@@ -1,7 +1,7 @@
 //! The aims, and whether the measured times meet them.
 
 use crate::cases::{NAMES, READING};
-use crate::page::Result;
+use crate::page::{thousands, Result};
 use crate::stores::{Fill, SIZES};
 
 /// The most of the reference's time that a reading call may take.
@@ -23,7 +23,7 @@ pub fn find<'a>(results: &'a [Result], name: &str, fill: Fill, slots: usize) -> 
 /// A line for each aim: what it is, and where it is not met.
 pub fn lines(results: &[Result]) -> String {
     let (reading, changing) = NAMES.split_at(READING);
-    let mut text = String::from("| aim, in a pool that one blob fills | met? |\n|---|---|\n");
+    let mut text = String::from("| aim, in a pool that one blob fills | met? if not, where: value and number of slots |\n|---|---|\n");
     text += &ratio_line(results, "reading calls", reading, READING_MOST);
     text += &ratio_line(results, "changing calls", changing, CHANGING_MOST);
     text += &copies_line(results);
@@ -34,11 +34,13 @@ pub fn lines(results: &[Result]) -> String {
 fn ratio_line(results: &[Result], what: &str, names: &[&str], most: f64) -> String {
     let mut missed = Vec::new();
     for name in names {
-        for slots in SIZES {
-            let ratio = find(results, name, Fill::Full, slots).ratio();
-            if ratio > most {
-                missed.push(format!("{} at {} slots: {:.2}", name, slots, ratio));
-            }
+        let ratio = |slots: &usize| (*slots, find(results, name, Fill::Full, *slots).ratio());
+        let over = SIZES.iter().map(ratio).filter(|(_, ratio)| *ratio > most);
+        let over: Vec<String> = over
+            .map(|(slots, ratio)| format!("{:.2} at {}", ratio, thousands(slots as u64)))
+            .collect();
+        if !over.is_empty() {
+            missed.push(format!("{}: {}", name, over.join(", ")));
         }
     }
     row(&format!("{} take at most {:.1} of the reference's time", what, most), &missed)
@@ -49,7 +51,7 @@ fn copies_line(results: &[Result]) -> String {
     for slots in SIZES {
         let copies = find(results, "read, whole blob", Fill::Full, slots).pool_copies();
         if copies > COPIES_MOST {
-            missed.push(format!("{} slots: {:.1}", slots, copies));
+            missed.push(format!("{:.1} at {}", copies, thousands(slots as u64)));
         }
     }
     row(&format!("a whole blob's read takes at most {} copies of its blocks", COPIES_MOST), &missed)

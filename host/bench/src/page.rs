@@ -168,7 +168,7 @@ fn short(number: f64) -> String {
 }
 
 /// With commas: 1,024.
-fn thousands(number: u64) -> String {
+pub fn thousands(number: u64) -> String {
     let digits = number.to_string();
     let mut text = String::new();
     for (at, digit) in digits.chars().enumerate() {
