@@ -28,6 +28,8 @@ struct Trial<'a> {
     output: Vec<u8>,
     from: Vec<u8>,
     to: Vec<u8>,
+    /// Takes up room, so that the others lie elsewhere from round to round.
+    before: Vec<u8>,
     samples: [Vec<f64>; 4],
     sum: u64,
 }
@@ -38,12 +40,23 @@ pub fn measure(cases: &[Case], rounds: usize) -> Vec<Times> {
     let mut trials: Vec<Trial> = cases.iter().map(Trial::new).collect();
     for round in 0..rounds {
         for trial in &mut trials {
-            trial.round(round, empty);
+            trial.move_on(round);
+            deeper(round % 16, &mut || trial.round(round, empty));
         }
         eprint!("\rround {} of {}", round + 1, rounds);
     }
     eprintln!(" (sum {:x})", trials.iter().fold(0u64, |sum, trial| sum.wrapping_add(trial.sum)));
     trials.iter_mut().map(Trial::times).collect()
+}
+
+/// Works this many calls deeper in the stack. Where things lie in memory makes
+/// a call faster or slower, so stack and stores lie elsewhere in each round.
+#[inline(never)]
+fn deeper(levels: usize, work: &mut dyn FnMut()) {
+    match levels {
+        0 => work(),
+        _ => deeper(levels - 1, &mut || work()),
+    }
 }
 
 /// What two looks at the clock with nothing between them take, median.
@@ -73,9 +86,20 @@ impl Trial<'_> {
             output: vec![0; case.output],
             from: vec![7; case.touched],
             to: vec![0; case.touched],
+            before: Vec::new(),
             samples: [Vec::new(), Vec::new(), Vec::new(), Vec::new()],
             sum: 0,
         }
+    }
+
+    /// Lays stores and areas elsewhere: what is before them has another size.
+    fn move_on(&mut self, round: usize) {
+        let before = vec![1u8; 16 * ((round * 37) % 509)];
+        self.stores = vec![self.case.before.clone(); self.stores.len()];
+        self.output = vec![0; self.case.output];
+        self.from = vec![7; self.case.touched];
+        self.to = vec![0; self.case.touched];
+        self.before = before;
     }
 
     /// Some samples of each kind in turn, after one that is not counted. Library

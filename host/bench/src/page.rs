@@ -56,6 +56,7 @@ pub fn page(
 ) -> String {
     let samples = (10 * rounds).to_string();
     let mut text = HEAD.replace("MACHINE", machine).replace("SAMPLES", &samples);
+    text = text.replace("ROUNDS", &rounds.to_string());
     text += "\n## The aims\n\n";
     text += &aims::lines(results);
     text += "\n";
