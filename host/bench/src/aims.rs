@@ -2,7 +2,7 @@
 
 use crate::cases::{NAMES, READING};
 use crate::page::{thousands, Result};
-use crate::stores::{Fill, SIZES};
+use crate::stores::{Fill, FILLS, SIZES};
 
 /// The most of the reference's time that a reading call may take.
 pub const READING_MOST: f64 = 1.0;
@@ -23,18 +23,22 @@ pub fn find<'a>(results: &'a [Result], name: &str, fill: Fill, slots: usize) -> 
 /// A line for each aim: what it is, and where it is not met.
 pub fn lines(results: &[Result]) -> String {
     let (reading, changing) = NAMES.split_at(READING);
-    let mut text = String::from("| aim, in a pool that one blob fills | met? if not, where: value and number of slots |\n|---|---|\n");
-    text += &ratio_line(results, "reading calls", reading, READING_MOST);
-    text += &ratio_line(results, "changing calls", changing, CHANGING_MOST);
+    let mut text = String::from(
+        "| aim | store | met? if not, where: value and number of slots |\n|---|---|---|\n",
+    );
+    for fill in FILLS {
+        text += &ratio_line(results, fill, "reading calls", reading, READING_MOST);
+        text += &ratio_line(results, fill, "changing calls", changing, CHANGING_MOST);
+    }
     text += &copies_line(results);
     text += &growth_line(results);
     text
 }
 
-fn ratio_line(results: &[Result], what: &str, names: &[&str], most: f64) -> String {
+fn ratio_line(results: &[Result], fill: Fill, what: &str, names: &[&str], most: f64) -> String {
     let mut missed = Vec::new();
     for name in names {
-        let ratio = |slots: &usize| (*slots, find(results, name, Fill::Full, *slots).ratio());
+        let ratio = |slots: &usize| (*slots, find(results, name, fill, *slots).ratio());
         let over = SIZES.iter().map(ratio).filter(|(_, ratio)| *ratio > most);
         let over: Vec<String> = over
             .map(|(slots, ratio)| format!("{:.2} at {}", ratio, thousands(slots as u64)))
@@ -43,7 +47,7 @@ fn ratio_line(results: &[Result], what: &str, names: &[&str], most: f64) -> Stri
             missed.push(format!("{}: {}", name, over.join(", ")));
         }
     }
-    row(&format!("{} take at most {:.1} of the reference's time", what, most), &missed)
+    row(&format!("{} take at most {:.1} of the reference's time", what, most), fill, &missed)
 }
 
 fn copies_line(results: &[Result]) -> String {
@@ -54,7 +58,11 @@ fn copies_line(results: &[Result]) -> String {
             missed.push(format!("{:.1} at {}", copies, thousands(slots as u64)));
         }
     }
-    row(&format!("a whole blob's read takes at most {} copies of its blocks", COPIES_MOST), &missed)
+    row(
+        &format!("a whole blob's read takes at most {} copies of its blocks", COPIES_MOST),
+        Fill::Full,
+        &missed,
+    )
 }
 
 fn growth_line(results: &[Result]) -> String {
@@ -65,7 +73,11 @@ fn growth_line(results: &[Result]) -> String {
             missed.push(format!("{}: {:.2}", name, growth));
         }
     }
-    row(&format!("time per slot at 1,024 slots is at most {} of that at 64", GROWTH_MOST), &missed)
+    row(
+        &format!("time per slot at 1,024 slots is at most {} of that at 64", GROWTH_MOST),
+        Fill::Full,
+        &missed,
+    )
 }
 
 /// The time per slot at 1,024 slots over that at 64.
@@ -74,7 +86,7 @@ pub fn growth(results: &[Result], name: &str) -> f64 {
     at(1024) / at(64)
 }
 
-fn row(aim: &str, missed: &[String]) -> String {
+fn row(aim: &str, fill: Fill, missed: &[String]) -> String {
     let met = if missed.is_empty() { "yes".into() } else { format!("no: {}", missed.join("; ")) };
-    format!("| {} | {} |\n", aim, met)
+    format!("| {} | {} | {} |\n", aim, fill.title(), met)
 }

@@ -70,17 +70,14 @@ pub fn page(
 }
 
 fn fill_tables(results: &[Result], fill: Fill) -> String {
-    let title = match fill {
-        Fill::Full => "One blob that fills the pool",
-        Fill::Many => "A pool full of blobs of 96 bytes",
-        Fill::Bare => "One blob of 96 bytes in an empty pool",
-    };
     let ratio = table(results, fill, Result::ratio);
     let copies = table(results, fill, Result::copies);
     format!(
         "\n## {}\n\nTime of the library over the time of the reference:\n\n{}\n\
          Time of the library over the time of a copy of the bytes touched:\n\n{}",
-        title, ratio, copies
+        fill.title(),
+        ratio,
+        copies
     )
 }
 

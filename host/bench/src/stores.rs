@@ -33,6 +33,15 @@ impl Fill {
         }
     }
 
+    /// What the page calls it.
+    pub fn title(self) -> &'static str {
+        match self {
+            Fill::Full => "One blob that fills the pool",
+            Fill::Many => "A pool full of blobs of 96 bytes",
+            Fill::Bare => "One blob of 96 bytes in an empty pool",
+        }
+    }
+
     /// The length of its blob, or of each.
     pub fn length(self, slots: usize) -> usize {
         match self {
