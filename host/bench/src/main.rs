@@ -2,7 +2,8 @@
 //! the bytes that a call touches. host/benchmark runs it.
 //!
 //!     bench count                   each call once, to be counted by valgrind
-//!     bench repeat CALL SLOTS TIMES one call of the library on a full pool, to be sampled by perf
+//!     bench repeat CALL FILL SLOTS TIMES
+//!                                   one call of the library, to be sampled by perf; fills are full, many, bare
 //!     bench write FOLDER ROUNDS MACHINE COUNTS PROFILE
 //!                                   measures, and writes BENCHMARKS.md and benchmarks.svg
 
@@ -17,18 +18,18 @@ mod stores;
 use cases::{Call, Case};
 use std::path::Path;
 use std::{env, fs, process};
-use stores::{Fill, Store};
+use stores::{Fill, Store, FILLS};
 
 fn main() {
     let words: Vec<String> = env::args().skip(1).collect();
     let words: Vec<&str> = words.iter().map(String::as_str).collect();
     let done = match words[..] {
         ["count"] => count(),
-        ["repeat", name, slots, times] => repeat(name, slots, times),
+        ["repeat", name, fill, slots, times] => repeat(name, fill, slots, times),
         ["write", folder, rounds, machine, counts, profile] => {
             write(folder, rounds, machine, counts, profile)
         }
-        _ => Err("usage: bench count | bench repeat CALL SLOTS TIMES \
+        _ => Err("usage: bench count | bench repeat CALL FILL SLOTS TIMES \
                   | bench write FOLDER ROUNDS MACHINE COUNTS PROFILE"
             .into()),
     };
@@ -55,11 +56,12 @@ fn count() -> Result<(), String> {
 }
 
 /// One call of the library again and again, on a fresh copy each time.
-fn repeat(name: &str, slots: &str, times: &str) -> Result<(), String> {
+fn repeat(name: &str, fill: &str, slots: &str, times: &str) -> Result<(), String> {
     let times: usize = times.parse().map_err(|_| "the number of times is no number")?;
+    let fill = FILLS.into_iter().find(|other| other.word() == fill).ok_or("no such fill")?;
     let fits = |case: &&Case| case.name == name && case.slots.to_string() == slots;
-    let cases = cases::of_fill(Fill::Full);
-    let case = cases.iter().find(fits).ok_or("there is no such call, or no such size")?;
+    let cases = cases::of_fill(fill);
+    let case = cases.iter().find(fits).ok_or("no such call, or no such number of slots")?;
     let (mut store, mut output) = (case.before.clone(), vec![0; case.output]);
     for _ in 0..times {
         store.refresh(&case.before);
