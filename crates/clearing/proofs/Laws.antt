@@ -1,42 +1,40 @@
 -- Delete: the changes slot by slot are those of the definition, since a slot holds a block of the blob exactly if its height is noted.
 use mathlib.Core.Path.{_≡_, refl, ap, _∙_, sym, subst}
-use mathlib.Core.Bool.{Bool, true, false, not}
 use mathlib.Core.List.{List, [], _∷_, _++_}
 use mathlib.Core.Logic.{_⊎_, inl, inr}
 use Prim.Native.Nat.{ℕ, zero, suc, _+_, _-_, _*_, _≤_, _<_}
 use native.Mathlib.Omega.{arith}
-use borrow.Author.Tests.{eq-eqb, ne-eqb, eqb-true, eqb-false, not-true, not-false, ltb-true}
+use borrow.Author.Tests.{eq-eqb, ne-eqb, eqb-true, eqb-false}
 use lib.Dec.{eqb, ltb}
 use lib.ListN.{length, getD, replicate, length-replicate}
 use Rattle.meaning.specs.Lists.{pick, both, range}
 use Rattle.meaning.specs.Edition.{Proper}
 use Rattle.meaning.specs.Bytes.{recordAt, recordOf, recordedOf, recorded, state}
 use Rattle.meaning.specs.Tree.{Blob, Held, nothing, just, held, cellsOf}
-use Rattle.meaning.specs.Refusals.{nowhere}
 use Rattle.meaning.specs.Change.{Change, Store, put, puts, freed, changed, changes, changedBy}
-use Rattle.meaning.specs.Calls.{Outcome, refused, done, refuseIf, rooted, changing, become, deleteOn, deleteIn, after}
+use Rattle.meaning.specs.Calls.{done, slotsIn, become, deleteOn, deleteIn, deleteCall, after}
 use Rattle.meaning.specs.Answers.{changeAnswer, Ends}
 use Rattle.meaning.specs.declared.Edition.{Edition}
 use Rattle.meaning.specs.declared.Refusal.{Refusal}
 use Rattle.meaning.specs.declared.Changed.{Changed}
 use Rattle.meaning.specs.declared.Changed.the-variants as changed
-use Rattle.laws.proofs.Inversions.{by-test, both-true}
+use Rattle.laws.proofs.Inversions.{by-test}
 use Rattle.laws.proofs.Codec.{record-length}
 use Rattle.growth.specs.Sites.{sitesOf, sited, absent, at}
 use Rattle.growth.proofs.Changes.{held-at, held-absent}
 use Rattle.gate.specs.Gate.{Whole}
-use Rattle.visit.specs.Visit.{Sized}
 use Rattle.visit.proofs.Laws.{slot-fits}
-use Rattle.reading.proofs.Opening.{whole-sized}
-use Rattle.walk.specs.declared.Walked.{Walked}
-use Rattle.walk.specs.declared.Walked.the-variants.{Fault, Fine}
 use Rattle.sites.specs.Spelt.{blobAt}
-use Rattle.sites.specs.Known.{Known, Surveyed}
-use Rattle.sites.proofs.Knowing.{surveyed-fault, surveyed-known, known-changing}
+use Rattle.sites.specs.Known.{Known}
+use Rattle.sites.proofs.Knowing.{known-changing}
+use Rattle.surveying.specs.declared.Reached.{Reached}
+use Rattle.surveying.specs.declared.Reached.the-variants as reached
+use Rattle.surveying.specs.Reached.{front, Behind, Reaches}
+use Rattle.surveying.proofs.Laws.{refused-so, reached-blob, reached-opened}
 use Rattle.change.specs.Places.{Places}
 use Rattle.change.specs.Turns.{over, Turning}
 use Rattle.change.proofs.Laws.{changes-over, over-same, record-left, turning-on}
-use Rattle.clearing.specs.Clear.{clearPlan, Room}
+use Rattle.clearing.specs.Clear.{clearPlan}
 
 -- one slot
 module _ (e : Edition) (n : ℕ) (P R heights : List ℕ) (i : ℕ) where
@@ -95,7 +93,7 @@ module _ (e : Edition) (p : Proper e) (n : ℕ) (P R : List ℕ) (r len k : ℕ)
       (λ q. let h = held-absent e p R (blobAt e P r) (g .standing) s (g .sites .none s (eqb-true (getD hs s 0) 0 q)) in rw (q, h))
       (λ q. let h = held-at e p R (blobAt e P r) (g .standing) s _ (g .sites .some s (eqb-false (getD hs s 0) 0 q)) in rw (q, h))
 
-  all-same : become e n P R 1 (cellsOf (blobAt e P r)) [] ≡ over (clearPlan e R hs) 0 n
+  pub all-same : become e n P R 1 (cellsOf (blobAt e P r)) [] ≡ over (clearPlan e R hs) 0 n
   unfolding become
   all-same =
       changes-over e R 1 (held (cellsOf (blobAt e P r))) (held []) 0 n
@@ -110,40 +108,25 @@ module _ (e : Edition) (p : Proper e) (n : ℕ) (P R : List ℕ) (r len k : ℕ)
   unfolding changeAnswer after changedBy
   ends P′ R′ ep er = record { answer = rw outcome; pool = ep ∙ rw outcome; records = er ∙ rw outcome }
 
--- refusal 3
-pub delete-unrooted : (e : Edition) (n : ℕ) (P R : List ℕ) (r : ℕ) (t : Bool) → t ≡ both (ltb r n) (eqb (state R r) 2) → not t ≡ true
-    → (q : Refusal) → q ≡ nowhere 3 → Ends e changeAnswer (deleteIn e n P R r) P R (changed.Refused q) P R
-unfolding deleteIn changing rooted refuseIf changeAnswer after
-delete-unrooted e n P R r t et p q eq = record { answer = rw eq (simp (← et, p)); pool = simp (← et, p); records = simp (← et, p) }
+-- what is reached decides
+module _ (e : Edition) (P R : List ℕ) (r : ℕ) (y : Reached) (row hs fs : List ℕ) (h : Reaches e P R r y row hs fs) where
+  pub delete-refused : (q : Refusal) → y ≡ reached.Refused q → Ends e changeAnswer (deleteCall e P R r) P R (changed.Refused q) P R
+  unfolding deleteCall deleteIn
+  delete-refused q eq = refused-so e P R r y row hs fs h q eq (deleteOn e (slotsIn e P) P R)
 
--- behind it the record is a root's
-module _ (R : List ℕ) (n r : ℕ) (t : Bool) (et : t ≡ both (ltb r n) (eqb (state R r) 2)) (p : not t ≡ false) where
-  pub rooted-within : r < n
-  rooted-within = ltb-true r n (both-true _ _ (sym et ∙ not-false t p) .0)
+  module _ (n len k : ℕ) (ey : y ≡ reached.Blob n len k) where
+    here : Behind e P R r n len k row hs fs
+    here = reached-blob e P R r y row hs fs h n len k ey
 
-  pub rooted-state : state R r ≡ 2
-  rooted-state = eqb-true (state R r) 2 (both-true (ltb r n) _ (sym et ∙ not-false t p) .1)
+    pub delete-whole : Whole e n P R
+    delete-whole = here .whole
 
--- what the survey is lent
-pub room-sized : (e : Edition) (n : ℕ) (P R seen row hs fs x : List ℕ) → Room e n P R seen row hs fs x → Sized e n P R seen
-room-sized e n P R seen row hs fs x g = whole-sized e n P R seen (g .whole) (g .unseen)
+    pub delete-heights : length (front n hs) ≡ n
+    delete-heights = here .known .heights
 
--- the survey's answer decides
-module _ (e : Edition) (n : ℕ) (P R : List ℕ) (r : ℕ) (w : Walked) (row hs fs : List ℕ) (sv : Surveyed e n P R r w row hs fs) where
-  pub delete-fault : (f : Refusal) → w ≡ Fault f → r < n → state R r ≡ 2 → Ends e changeAnswer (deleteIn e n P R r) P R (changed.Refused f) P R
-  unfolding deleteIn changeAnswer after
-  delete-fault f ef lr sr =
-      let u = surveyed-fault e n P R r w row hs fs sv f ef lr sr (deleteOn e n P R) in
-      record { answer = rw u; pool = rw u; records = rw u }
-
-  module _ (len k : ℕ) (ek : w ≡ Fine len k) where
-    pub delete-heights : length hs ≡ n
-    delete-heights = surveyed-known e n P R r w row hs fs sv len k ek .heights
-
-    pub delete-done : Proper e → (P′ R′ : List ℕ) → P′ ≡ puts (e .size) (λ c. c .block) (over (clearPlan e R hs) 0 n) P
-        → R′ ≡ puts 12 (λ c. c .line) (over (clearPlan e R hs) 0 n) R → Ends e changeAnswer (deleteIn e n P R r) P R changed.Done P′ R′
-    delete-done q P′ R′ ep er = ends e q n P R r len k row hs fs (surveyed-known e n P R r w row hs fs sv len k ek) P′ R′ ep er
-
--- a row keeps its length
-pub kept-length : (n : ℕ) (hs hs′ : List ℕ) → hs ≡ replicate n 0 → length hs′ ≡ length hs → length hs′ ≡ n
-kept-length n hs hs′ e l = l ∙ ap length e ∙ length-replicate n 0
+    pub delete-done : Proper e → (P′ R′ : List ℕ) → P′ ≡ puts (e .size) (λ c. c .block) (over (clearPlan e R (front n hs)) 0 n) P
+        → R′ ≡ puts 12 (λ c. c .line) (over (clearPlan e R (front n hs)) 0 n) R → Ends e changeAnswer (deleteCall e P R r) P R changed.Done P′ R′
+    unfolding deleteCall
+    delete-done p P′ R′ ep er =
+        rw (reached-opened e P R r y row hs fs h n len k ey (λ m. deleteIn e m P R r))
+        (ends e p n P R r len k (front n row) (front n hs) (front n fs) (here .known) P′ R′ ep er)

@@ -1,18 +1,18 @@
-// Delete, behind refusals 1 and 2: every block of the blob goes.
+// Delete, for any edition: every block of the blob goes.
 use meaning::Changed;
 use meaning::Edition;
-use walk::Walked;
+use surveying::Reached;
 ghost use mathlib.Core.Path.{_≡_};
 ghost use Prim.Native.Nat.{_<_};
 ghost use lib.ListN.{length};
 ghost use Rattle.meaning.specs.Edition.{Proper};
 ghost use Rattle.meaning.specs.Change.{puts, Change};
-ghost use Rattle.meaning.specs.Calls.{deleteIn};
+ghost use Rattle.meaning.specs.Calls.{deleteCall};
 ghost use Rattle.meaning.specs.Answers.{changeAnswer, Ends};
-ghost use Rattle.meaning.specs.Bytes.{state};
 ghost use Rattle.gate.specs.Gate.{Whole};
 ghost use Rattle.change.specs.Turns.{over};
-ghost use Rattle.clearing.specs.Clear.{clearPlan, Room};
+ghost use Rattle.surveying.specs.Reached.{Rows};
+ghost use Rattle.clearing.specs.Clear.{clearPlan, clearedFrom};
 
 // A slot of the blob goes, any other stays.
 fn clear_slot(
@@ -36,6 +36,20 @@ fn clear_slot(
     change::put_free(e, pool, records, scratch, i, version);
 }
 
+// How many slots a delete changes. Nothing is written.
+pub fn count_changes(heights: &[u8], n: usize) -> usize
+    requires { ⌜ length (now heights) ≡ n ⌝ }
+    ensures { λ r. ⌜ r ≡ clearedFrom (now (heights .entry)) 0 n ⌝ }
+{
+    let mut m = 0;
+    let mut i = 0;
+    while i < n {
+        m += usable::one_if(heights[i] != 0);
+        i += 1;
+    }
+    m
+}
+
 // Every slot of the blob goes, rising.
 fn clear_all(
     e: Edition,
@@ -57,8 +71,8 @@ fn clear_all(
     }
 }
 
-// The pool check, then the blob goes.
-fn delete_rooted(
+// Delete: refusals 1, 2 and 3 and the pool check, then every block of the blob goes.
+pub fn delete_call(
     e: Edition,
     pool: &mut [u8],
     records: &mut [u8],
@@ -67,53 +81,18 @@ fn delete_rooted(
     heights: &mut [u8],
     firsts: &mut [u32],
     scratch: &mut [u8],
-    n: usize,
-    root: usize,
-) -> Changed
-    requires { ⌜ Proper e ⌝ }
-    requires { ⌜ Room e n (now pool) (now records) (now seen) (now row) (now heights) (now firsts) (now scratch) ⌝ }
-    requires { ⌜ (root < n) × (state (now records) root ≡ 2) ⌝ }
-    ensures { λ r. ⌜ Ends e changeAnswer (deleteIn e n (now (pool .entry)) (now (records .entry)) root) (now (pool .entry)) (now (records .entry)) r (now (pool .exit)) (now (records .exit)) ⌝ }
-{
-    match sites::survey(e, pool, records, seen, row, heights, firsts, n, root) {
-        Walked::Fault(r) => Changed::Refused(r),
-        Walked::Fine(_, _) => {
-            clear_all(e, pool, records, heights, scratch, n);
-            Changed::Done
-        }
-    }
-}
-
-// Refusal 3, then what is behind it.
-pub fn delete_in(
-    e: Edition,
-    pool: &mut [u8],
-    records: &mut [u8],
-    seen: &mut [u8],
-    row: &mut [u32],
-    heights: &mut [u8],
-    firsts: &mut [u32],
-    scratch: &mut [u8],
-    n: usize,
     root: u64,
 ) -> Changed
     requires { ⌜ Proper e ⌝ }
-    requires { ⌜ Room e n (now pool) (now records) (now seen) (now row) (now heights) (now firsts) (now scratch) ⌝ }
-    ensures { λ r. ⌜ Ends e changeAnswer (deleteIn e n (now (pool .entry)) (now (records .entry)) root) (now (pool .entry)) (now (records .entry)) r (now (pool .exit)) (now (records .exit)) ⌝ }
+    requires { ⌜ Rows e (now seen) (now row) (now heights) (now firsts) ⌝ }
+    requires { ⌜ length (now scratch) ≡ e .size ⌝ }
+    ensures { λ r. ⌜ Ends e changeAnswer (deleteCall e (now (pool .entry)) (now (records .entry)) root) (now (pool .entry)) (now (records .entry)) r (now (pool .exit)) (now (records .exit)) ⌝ }
 {
-    if !gate::is_root(records, n, root) {
-        return Changed::Refused(meaning::refuse_nowhere(3));
+    match surveying::reach(e, pool, records, seen, row, heights, firsts, root) {
+        Reached::Refused(r) => Changed::Refused(r),
+        Reached::Blob(n, _, _) => {
+            clear_all(e, pool, records, &heights[0..n], scratch, n);
+            Changed::Done
+        }
     }
-    delete_rooted(
-        e,
-        pool,
-        records,
-        seen,
-        row,
-        heights,
-        firsts,
-        scratch,
-        n,
-        root as usize,
-    )
 }

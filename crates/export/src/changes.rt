@@ -1,10 +1,8 @@
 // The calls that change the store. A refusal writes nothing but the answer's eight numbers.
-use crate::answers;
-use meaning::Created;
 ghost use Rattle.meaning.specs.Edition.{one};
 ghost use Rattle.meaning.specs.Calls.{createCall, writeCall, resizeCall, deleteCall};
 ghost use Rattle.meaning.specs.Answers.{Ends};
-ghost use Rattle.export.specs.Numbers.{createNumbers, changeNumbers, WipeNumbers};
+ghost use Rattle.answers.specs.Numbers.{createNumbers, changeNumbers, WipeNumbers};
 
 // Pool all zeros, each record free at version 0.
 #[no_mangle]
@@ -20,10 +18,8 @@ pub extern "C" fn tj_wipe(pool: &mut [u8], records: &mut [u8], answer: &mut [u64
 pub extern "C" fn tj_create(pool: &mut [u8], records: &mut [u8], answer: &mut [u64; 8])
     ensures { λ _. ⌜ Ends one createNumbers (createCall one (now (pool .entry)) (now (records .entry))) (now (pool .entry)) (now (records .entry)) (now (answer .exit)) (now (pool .exit)) (now (records .exit)) ⌝ }
 {
-    match store::changes::create(pool, records) {
-        Created::At(s) => answers::put_values(answer, s, 0),
-        Created::Refused(r) => answers::put_refusal(answer, r),
-    }
+    let x = store::changes::create(pool, records);
+    answers::put_created(answer, x)
 }
 
 // Bytes put inside the present length, from the offset on.

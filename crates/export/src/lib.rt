@@ -1,4 +1,3 @@
 // The store's calls for C. Slices come as pointer and length; the answer is eight lent numbers.
-mod answers;
 pub mod changes;
 pub mod reads;

@@ -15,6 +15,8 @@ use Rattle.laws.proofs.Totals.{total-le, total-ge}
 use Rattle.growth.specs.Cuts.{heightOfLength}
 use Rattle.growth.specs.Slots.{taken}
 use Rattle.rising.proofs.Bounds.{longer-leaves}
+use Rattle.gate.specs.Gate.{Whole}
+use Rattle.visit.proofs.Laws.{slot-fits}
 use Rattle.change.specs.Turns.{over}
 use Rattle.usable.proofs.Laws.{usable-all}
 use Rattle.drawing.specs.declared.Growth.{Growth}
@@ -27,17 +29,36 @@ use Rattle.growing.proofs.Low.{usable-few}
 use Rattle.growing.proofs.Same.{grow-changes}
 use Rattle.sites.specs.Spelt.{blobAt}
 use Rattle.fitting.specs.Measures.{Measures}
-use Rattle.fitting.specs.Found.{resizedTo, Roomy}
+use Rattle.fitting.specs.Found.{resizedTo, Roomy, Longer}
 
 -- a height that was read
 pub measured : (e : Edition) (P : List ℕ) (r : ℕ) (root : List ℕ) → root ≡ block e P r → (h : ℕ) → h ≡ heightOf root → (leaves want : ℕ) (t : Tower)
     → Measures e h leaves want t → Measures e (heightOf (block e P r)) leaves want t
 measured e P r root er h eh leaves want t m = rw (← er, ← eh) m
 
-module _ (e : Edition) (p : Proper e) (n : ℕ) (P R : List ℕ) (r bytes leaves : ℕ) (hs fs free : List ℕ) (len want : ℕ)
-    (g : Roomy e n P R r bytes leaves hs fs free len want) (long : bytes ≤ len) where
+module _ (e : Edition) (p : Proper e) (n : ℕ) (P R : List ℕ) (r leaves : ℕ) (hs fs free : List ℕ) (len want : ℕ)
+    (o : Longer e n P R r leaves hs fs free len want) where
   abbrev b : Blob
   b = blobAt e P r
+
+  abbrev bytes : ℕ
+  bytes = o .bytes
+
+  abbrev g : Roomy e n P R r bytes leaves hs fs free len want
+  g = o .roomy
+
+  abbrev long : bytes ≤ len
+  long = o .long
+
+  -- the root lies in the pool, which is whole
+  pub long-whole : Whole e n P R
+  long-whole = g .whole
+
+  pub long-within : r < n
+  long-within = g .found .known .within
+
+  pub long-place : e .size * r + e .size ≤ length P
+  long-place = slot-fits (e .size) n r P (long-whole .pool) long-within
 
   -- it has no more leaves than it will have
   pub long-more : leaves ≤ want

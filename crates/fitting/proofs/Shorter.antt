@@ -19,34 +19,34 @@ use Rattle.visit.proofs.Laws.{slot-fits}
 use Rattle.sites.specs.Spelt.{blobAt}
 use Rattle.cutting.specs.declared.Cut.{Cut}
 use Rattle.shortening.specs.Starts.{CutStart}
-use Rattle.fitting.specs.Found.{resizedTo, Roomy}
-use Rattle.fitting.proofs.Laws.{leaves-few}
+use Rattle.fitting.specs.Found.{resizedTo, Shorter}
+use Rattle.fitting.proofs.Laws.{leaves-totalled}
 
-module _ (e : Edition) (n : ℕ) (P R : List ℕ) (r bytes leaves : ℕ) (hs fs free : List ℕ) (len want : ℕ)
-    (g : Roomy e n P R r bytes leaves hs fs free len want) where
+module _ (e : Edition) (n : ℕ) (P R : List ℕ) (r : ℕ) (hs fs : List ℕ) (len want : ℕ) (o : Shorter e n P R r hs fs len want) where
   -- the root lies in the pool
-  pub root-place : e .size * r + e .size ≤ length P
-  root-place = slot-fits (e .size) n r P (g .whole .pool) (g .found .known .within)
+  pub short-place : e .size * r + e .size ≤ length P
+  short-place = slot-fits (e .size) n r P (o .roomy .whole .pool) (o .roomy .found .known .within)
 
-  -- a length below the blob's has few leaves
-  pub short-few : Proper e → len < bytes → Fits w64 bytes → want ≤ 2 ^ 62
-  short-few p short small = omega (arith, g .wanted, leaves-few e p len (omega (arith, small .fits)))
+  -- the leaves are few
+  pub short-few : Proper e → Fits w64 len → want ≤ 2 ^ 62
+  short-few p fits = leaves-totalled e p len want fits (o .roomy .wanted)
 
   -- the blob can be cut
-  pub short-start : (top : ℕ) → top ≡ heightFor (e .fan) want → len < bytes
-      → CutStart e (record { length = len; leaves = want; top = top }) n P R r hs fs
+  pub short-start : (top : ℕ) → top ≡ heightFor (e .fan) want → CutStart e (record { length = len; leaves = want; top = top }) n P R r hs fs
   unfolding heightOfLength
-  short-start top et short = record {
-    len = bytes;
-    k = leaves;
-    row = g .found .row;
-    whole = g .whole;
-    known = g .found .known;
-    leaves = g .wanted;
-    top = et ∙ ap (heightFor (e .fan)) (g .wanted);
-    short = short;
-    fresh = g .fresh;
-  }
+  short-start top et =
+      let g = o .roomy in
+      record {
+        len = o .bytes;
+        k = o .leaves;
+        row = g .found .row;
+        whole = g .whole;
+        known = g .found .known;
+        leaves = g .wanted;
+        top = et ∙ ap (heightFor (e .fan)) (g .wanted);
+        short = o .short;
+        fresh = g .fresh;
+      }
 
 -- a height that was read
 pub height-read : (e : Edition) (P : List ℕ) (r : ℕ) (b : List ℕ) → b ≡ block e P r → (h : ℕ) → h ≡ heightOf b → h ≡ heightOf (block e P r)

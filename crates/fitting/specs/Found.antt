@@ -2,7 +2,7 @@
 use mathlib.Core.Path.{_≡_}
 use mathlib.Core.Bool.{false}
 use mathlib.Core.List.{List}
-use Prim.Native.Nat.{ℕ, _-_, _≤_}
+use Prim.Native.Nat.{ℕ, _-_, _≤_, _<_}
 use lib.ListN.{length}
 use Rattle.meaning.specs.declared.Edition.{Edition}
 use Rattle.meaning.specs.Shape.{leavesFor, total}
@@ -39,3 +39,17 @@ pub record Roomy (e : Edition) (n : ℕ) (P R : List ℕ) (r bytes leaves : ℕ)
   pub list : free ≡ usableFrom R 0 n
   pub wanted : want ≡ leavesFor (e .leaf) len
   pub room : total (e .fan) want - total (e .fan) leaves ≤ length free
+
+-- and it gets shorter; what the code does not use is held within
+pub record Shorter (e : Edition) (n : ℕ) (P R : List ℕ) (r : ℕ) (hs fs : List ℕ) (len want : ℕ) : Type 0 where
+  pub bytes : ℕ
+  pub leaves : ℕ
+  pub free : List ℕ
+  pub roomy : Roomy e n P R r bytes leaves hs fs free len want
+  pub short : len < bytes
+
+-- or it does not
+pub record Longer (e : Edition) (n : ℕ) (P R : List ℕ) (r leaves : ℕ) (hs fs free : List ℕ) (len want : ℕ) : Type 0 where
+  pub bytes : ℕ
+  pub roomy : Roomy e n P R r bytes leaves hs fs free len want
+  pub long : bytes ≤ len

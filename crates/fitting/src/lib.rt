@@ -1,4 +1,5 @@
-// A blob resized, past every refusal: the numbers that are worked out beforehand, then every slot of the blob and every slot that is taken, rising.
+// Refusal 11; and a blob made shorter or longer, past every refusal: the numbers that are worked out beforehand, then every slot of the blob and
+// every slot that is taken, rising.
 use cutting::Cut;
 use drawing::Growth;
 use meaning::Edition;
@@ -12,7 +13,7 @@ ghost use Rattle.meaning.specs.Bytes.{block, heightOf};
 ghost use Rattle.meaning.specs.Shape.{leavesFor, total};
 ghost use Rattle.meaning.specs.Change.{puts};
 ghost use Rattle.fitting.specs.Measures.{Measures};
-ghost use Rattle.fitting.specs.Found.{resizedTo, Drafts, Roomy};
+ghost use Rattle.fitting.specs.Found.{resizedTo, Drafts, Shorter, Longer};
 
 // Refusal 11: whether more new blocks are needed than slots are free.
 pub fn lacks_room(e: Edition, leaves: usize, long: u64, free: usize) -> bool
@@ -45,11 +46,10 @@ fn tower_of(e: Edition, height: usize, leaves: usize, want: usize) -> Tower
 }
 
 // The blob gets shorter.
-fn shorten(
+pub fn shorten(
     e: Edition,
     pool: &mut [u8],
     records: &mut [u8],
-    free: &[u32],
     heights: &[u8],
     firsts: &[u32],
     kept: &mut [u8],
@@ -57,15 +57,12 @@ fn shorten(
     scratch: &mut [u8],
     n: usize,
     root: usize,
-    bytes: usize,
-    leaves: usize,
     short: usize,
     want: usize,
 )
     requires { ⌜ Proper e ⌝ }
-    requires { ⌜ Roomy e n (now pool) (now records) root bytes leaves (now heights) (now firsts) (now free) short want ⌝ }
+    requires { ⌜ Shorter e n (now pool) (now records) root (now heights) (now firsts) short want ⌝ }
     requires { ⌜ Drafts e (now kept) (now payload) (now scratch) ⌝ }
-    requires { ⌜ short < bytes ⌝ }
     ensures { λ _. ⌜ now (pool .exit) ≡ puts (e .size) (λ c. c .block) (resizedTo e n (now (pool .entry)) (now (records .entry)) root short) (now (pool .entry)) ⌝ }
     ensures { λ _. ⌜ now (records .exit) ≡ puts 12 (λ c. c .line) (resizedTo e n (now (pool .entry)) (now (records .entry)) root short) (now (records .entry)) ⌝ }
 {
@@ -104,7 +101,7 @@ fn tower_at(e: Edition, pool: &[u8], root: usize, leaves: usize, want: usize) ->
 }
 
 // The blob gets longer, or stays as long as it is.
-fn lengthen(
+pub fn lengthen(
     e: Edition,
     pool: &mut [u8],
     records: &mut [u8],
@@ -116,15 +113,13 @@ fn lengthen(
     scratch: &mut [u8],
     n: usize,
     root: usize,
-    bytes: usize,
     leaves: usize,
     long: usize,
     want: usize,
 )
     requires { ⌜ Proper e ⌝ }
-    requires { ⌜ Roomy e n (now pool) (now records) root bytes leaves (now heights) (now firsts) (now free) long want ⌝ }
+    requires { ⌜ Longer e n (now pool) (now records) root leaves (now heights) (now firsts) (now free) long want ⌝ }
     requires { ⌜ Drafts e (now kept) (now payload) (now scratch) ⌝ }
-    requires { ⌜ bytes ≤ long ⌝ }
     ensures { λ _. ⌜ now (pool .exit) ≡ puts (e .size) (λ c. c .block) (resizedTo e n (now (pool .entry)) (now (records .entry)) root long) (now (pool .entry)) ⌝ }
     ensures { λ _. ⌜ now (records .exit) ≡ puts 12 (λ c. c .line) (resizedTo e n (now (pool .entry)) (now (records .entry)) root long) (now (records .entry)) ⌝ }
 {
@@ -149,67 +144,4 @@ fn lengthen(
         n,
         root,
     );
-}
-
-// The blob gets that length.
-pub fn resize_blob(
-    e: Edition,
-    pool: &mut [u8],
-    records: &mut [u8],
-    free: &[u32],
-    heights: &[u8],
-    firsts: &[u32],
-    kept: &mut [u8],
-    payload: &mut [u8],
-    scratch: &mut [u8],
-    n: usize,
-    root: usize,
-    bytes: usize,
-    leaves: usize,
-    len: usize,
-    want: usize,
-)
-    requires { ⌜ Proper e ⌝ }
-    requires { ⌜ Roomy e n (now pool) (now records) root bytes leaves (now heights) (now firsts) (now free) len want ⌝ }
-    requires { ⌜ Drafts e (now kept) (now payload) (now scratch) ⌝ }
-    ensures { λ _. ⌜ now (pool .exit) ≡ puts (e .size) (λ c. c .block) (resizedTo e n (now (pool .entry)) (now (records .entry)) root len) (now (pool .entry)) ⌝ }
-    ensures { λ _. ⌜ now (records .exit) ≡ puts 12 (λ c. c .line) (resizedTo e n (now (pool .entry)) (now (records .entry)) root len) (now (records .entry)) ⌝ }
-{
-    if len < bytes {
-        shorten(
-            e,
-            pool,
-            records,
-            free,
-            heights,
-            firsts,
-            kept,
-            payload,
-            scratch,
-            n,
-            root,
-            bytes,
-            leaves,
-            len,
-            want,
-        );
-    } else {
-        lengthen(
-            e,
-            pool,
-            records,
-            free,
-            heights,
-            firsts,
-            kept,
-            payload,
-            scratch,
-            n,
-            root,
-            bytes,
-            leaves,
-            len,
-            want,
-        );
-    }
 }

@@ -4,10 +4,13 @@ use meaning::Edition;
 use towers::Tower;
 use turn::Turn;
 ghost use mathlib.Core.Path.{_≡_};
-ghost use Prim.Native.Nat.{_+_, _-_, _*_, _≤_, _<_};
+ghost use Prim.Native.Nat.{_+_, _-_, _*_, _^_, _≤_, _<_};
+ghost use lib.Dec.{eqb};
 ghost use lib.ListN.{length, getD};
+ghost use Rattle.meaning.specs.Lists.{both};
 ghost use Rattle.meaning.specs.Edition.{Proper};
-ghost use Rattle.meaning.specs.Bytes.{block, recorded};
+ghost use Rattle.meaning.specs.Bytes.{block, heightOf, countOf, recorded};
+ghost use Rattle.meaning.specs.Resize.{share};
 ghost use Rattle.drawing.specs.Grows.{Grows};
 ghost use Rattle.turn.specs.Turned.{turned, Rises};
 ghost use Rattle.towers.specs.Towers.{Towers, RootBlock};
@@ -26,7 +29,22 @@ fn plan_root(e: Edition, g: Growth, t: Tower, free: &[u32], kept: &[u8], payload
     turn::renewed(kept, d.height, d.count)
 }
 
-// What another block of the blob becomes, by where it stands.
+// Whether a block is a leaf that has all the bytes that it is to have.
+fn is_settled(e: Edition, long: usize, block: &[u8], h: usize, first: usize) -> bool
+    requires { ⌜ Proper e ⌝ }
+    requires { ⌜ (16 ≤ length (now block)) × (first ≤ 2 ^ 50) ⌝ }
+    ensures { λ r. ⌜ r ≡ both (eqb h 0) (both (eqb (heightOf (now (block .entry))) 0) (eqb (countOf (now (block .entry))) (share e long first))) ⌝ }
+{
+    if h != 0 {
+        return false;
+    }
+    if block::check::height_of(block) != 0 {
+        return false;
+    }
+    block::check::count_of(block) == payload::share_of(e, long, first)
+}
+
+// What another block of the blob becomes, by where it stands. A leaf that stays is not drawn.
 fn plan_old(
     e: Edition,
     g: Growth,
@@ -46,6 +64,9 @@ fn plan_old(
     let h = heights[i] as usize - 1;
     let first = firsts[i] as usize;
     let block = slot::block_of(e, pool, i);
+    if is_settled(e, g.length, block, h, first) {
+        return Turn::Stays;
+    }
     let d = drawing::draw_grown(e, g, free, block, payload, h, first);
     turn::renewed(block, d.height, d.count)
 }

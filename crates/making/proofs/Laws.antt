@@ -17,14 +17,17 @@ use Rattle.meaning.specs.Refusals.{nowhere}
 use Rattle.meaning.specs.Walk.{Found, fault, fine, poolCheck}
 use Rattle.meaning.specs.Change.{Change, Store, put, puts, renewed, changed, changes, changedBy}
 use Rattle.meaning.specs.Resize.{lowest}
-use Rattle.meaning.specs.Calls.{Outcome, refused, done, refuseIf, afterCheck, usable, refuseFull, become, createOn, createIn, after}
+use Rattle.meaning.specs.Calls.{Outcome, refused, done, refuseIf, afterCheck, usable, refuseFull, become, createOn, createIn, createCall, slotsIn, after}
 use Rattle.meaning.specs.Answers.{createAnswer, Ends}
 use Rattle.meaning.specs.declared.Edition.{Edition}
 use Rattle.meaning.specs.declared.Refusal.{Refusal}
 use Rattle.meaning.specs.declared.Created.{Created}
 use Rattle.meaning.specs.declared.Created.the-variants as created
 use Rattle.laws.proofs.Inversions.{by-test, both-true}
-use Rattle.gate.specs.Gate.{Whole}
+use Rattle.gate.specs.Gate.{Whole, gate}
+use Rattle.gate.specs.declared.Opened.{Opened}
+use Rattle.gate.specs.declared.Opened.the-variants.{Slots, Refused}
+use Rattle.gate.proofs.Laws.{gate-whole, gate-behind, gate-barred}
 use Rattle.visit.proofs.Laws.{slot-fits}
 use Rattle.walk.specs.declared.Walked.{Walked}
 use Rattle.walk.specs.declared.Walked.the-variants.{Fault, Fine}
@@ -171,3 +174,20 @@ module _ (e : Edition) (n : ℕ) (P R : List ℕ) (named : ℕ) (o : List ℕ) (
   create-behind b k eb x P′ R′ h =
       let u = noted-fine (noteNamed named (kept 0 0 o)) (record { bytes = b; leaves = k; row = ox }) sx (poolCheck e n P R) (rw eb at ew) in
       rw (u .1) h
+
+-- refusals 1 and 2, and what is behind them
+module _ (e : Edition) (P R : List ℕ) (x : Opened) (ex : x ≡ gate e P R) where
+  pub create-barred : (q : Refusal) → x ≡ Refused q → Ends e createAnswer (createCall e P R) P R (created.Refused q) P R
+  unfolding createCall createAnswer after
+  create-barred q eq =
+      let u = gate-barred e P R x ex q eq (createIn e (slotsIn e P) P R) in
+      record { answer = rw u; pool = rw u; records = rw u }
+
+  module _ (n : ℕ) (en : x ≡ Slots n) where
+    pub create-whole : Whole e n P R
+    create-whole = gate-whole e P R x ex n en
+
+    pub create-opened : (a : Created) (P′ R′ : List ℕ) → Ends e createAnswer (createIn e n P R) P R a P′ R′
+        → Ends e createAnswer (createCall e P R) P R a P′ R′
+    unfolding createCall
+    create-opened a P′ R′ h = rw (gate-behind e P R x ex n en (λ m. createIn e m P R)) h

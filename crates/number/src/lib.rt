@@ -127,12 +127,19 @@ pub fn starts_with(s: &[u8], x: u8, y: u8) -> bool
     s[1] == y
 }
 
-// Whether every byte is zero.
+// Whether every byte is zero. Eight are looked at in one number, as long as so many are left.
 pub fn all_zero(s: &[u8]) -> bool
     ensures { λ r. ⌜ r ≡ zeros (now (s .entry)) ⌝ }
 {
     let mut i = 0;
     while i < s.len() {
+        if 8 <= s.len() - i {
+            if u64_at(s, i) != 0 {
+                return false;
+            }
+            i += 8;
+            continue;
+        }
         if s[i] != 0 {
             return false;
         }

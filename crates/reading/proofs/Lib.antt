@@ -1,3 +1,4 @@
-pub mod Opening
 pub mod Answering
-pub mod Copying
+pub mod Opening
+pub mod Rows
+pub mod Lending

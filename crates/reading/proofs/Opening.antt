@@ -24,7 +24,8 @@ use Rattle.visit.specs.Visit.{Sized}
 use Rattle.walk.specs.declared.Walked.{Walked}
 use Rattle.walk.specs.declared.Walked.the-variants.{Fault, Fine}
 use Rattle.walk.specs.Noting.{Noted, met, mapFound, putAll, noteLeaves, noteTree, noteBlob, noteRoot}
-use Rattle.reading.specs.Spelling.{openNoted}
+use Rattle.reading.specs.Rooted.{openNoted}
+use Rattle.reading.proofs.Answering.{noted-fault, noted-fine}
 
 -- flags all zero are of the right length
 pub whole-sized : (e : Edition) (n : ℕ) (P R seen : List ℕ) → Whole e n P R → seen ≡ replicate n 0 → Sized e n P R seen
@@ -41,17 +42,6 @@ pub record Blobbed (e : Edition) (n : ℕ) (P R : List ℕ) (r b k : ℕ) (o sx 
   pub bytes : b ≡ lengthOf blob
   pub leaves : k ≡ length (leavesOf blob)
   pub row : ox ≡ putAll o 0 (leafSlots blob)
-
-noted-blob : (o : List ℕ) (b k : ℕ) (ox sx : List ℕ) (F : Found Blob) → fine (record { bytes = b; leaves = k; row = ox }) sx ≡ mapFound (noteBlob o) F
-    → (c : Blob) × (F ≡ fine c sx) × (record { bytes = b; leaves = k; row = ox } ≡ noteBlob o c)
-unfolding mapFound
-noted-blob o b k ox sx (fault r) e = absurd (let z : _≡_ {A = ℕ} 0 1 = cc in omega arith)
-noted-blob o b k ox sx (fine c seen) e = (c, cc, cc)
-
-noted-fault : (o : List ℕ) (f : Refusal) (F : Found Blob) → fault f ≡ mapFound (noteBlob o) F → F ≡ fault f
-unfolding mapFound
-noted-fault o f (fault r) e = cc
-noted-fault o f (fine c seen) e = absurd (let z : _≡_ {A = ℕ} 0 1 = cc in omega arith)
 
 -- the code's two ways: not a root, or the walk's answer
 module _ (e : Edition) (n : ℕ) (P R : List ℕ) (r : ℕ) (o : List ℕ) (t : Bool) (et : t ≡ both (ltb r n) (eqb (state R r) 2)) where
@@ -73,7 +63,7 @@ pick-fine false F q x sx e = (cc, cc)
 noted-blob-fault : (o : List ℕ) (f : Refusal) (t : Bool) (F : Found Blob) → fault f ≡ pick t (mapFound (noteBlob o) F) (fault (nowhere 3))
     → {A : Type 0} (k : Blob → Outcome A) → refuseIf (not t) 3 (afterCheck F k) ≡ refused f
 unfolding pick refuseIf afterCheck
-noted-blob-fault o f true F e k = rw (noted-fault o f F e)
+noted-blob-fault o f true F e k = rw (noted-fault (noteBlob o) f F e)
 noted-blob-fault o f false F e k = cc
 
 module _ (e : Edition) (n : ℕ) (P R : List ℕ) (r : ℕ) (o : List ℕ) (w : Walked) (sx ox : List ℕ) (ew : met w sx ox ≡ openNoted e n P R r o) where
@@ -93,7 +83,7 @@ module _ (e : Edition) (n : ℕ) (P R : List ℕ) (r : ℕ) (o : List ℕ) (w : 
     pub open-found : Blobbed e n P R r b k o sx ox
     unfolding noteRoot noteBlob noteTree noteLeaves blobCheck lengthOf contentOf leavesOf leafSlots
     open-found =
-        let c = noted-blob o b k ox sx (fromRoot e n P R (replicate n 0) r) (opened .1) in
+        let c = noted-fine (noteBlob o) (record { bytes = b; leaves = k; row = ox }) sx (fromRoot e n P R (replicate n 0) r) (opened .1) in
         record {
           blob = c .0;
           found = c .1;

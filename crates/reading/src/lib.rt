@@ -1,7 +1,3 @@
-// The reading calls, behind refusals 1 and 2.
-pub mod audit;
-pub mod copy;
-pub mod leaf;
-pub mod length;
+// What every call on one blob shares: refusal 3 with the blob check, and the row of leaf slots that it fills.
 pub mod open;
-pub mod read;
+pub mod row;

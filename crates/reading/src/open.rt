@@ -6,7 +6,7 @@ ghost use lib.ListN.{replicate};
 ghost use Rattle.meaning.specs.Edition.{Proper};
 ghost use Rattle.gate.specs.Gate.{Whole};
 ghost use Rattle.walk.specs.Noting.{met};
-ghost use Rattle.reading.specs.Spelling.{openNoted};
+ghost use Rattle.reading.specs.Rooted.{openNoted};
 
 // The blob's bytes and leaves, whose slots are noted in the row; or the refusal.
 pub fn open_blob(

@@ -60,7 +60,7 @@ module _ (e : Edition) (n : ℕ) (P hs fs : List ℕ) (h s k : ℕ) (start : Blo
       let q : h ≡ suc (h - 1) = omega arith in
       let i : Inside e P n (suc (h - 1)) s = rw (← q) (start .inside) in
       let f = inside-fit e P n (suc (h - 1)) s i in
-      let c : fours m (drop (16 + 4 * 0) (block e P s)) ≡ childrenOf (block e P s) = rw (em, eb) in
+      let c : fours m (drop 16 (block e P s)) ≡ childrenOf (block e P s) = rw (em, eb) in
       let l : k + treeLeaves e P (suc (h - 1)) s < 2 ^ 32 = rw (← q) (start .few) in
       record {
         ready = again e n P hs fs hs₁ fs₁ (start .ready) (ap length eh ∙ length-set hs s (h + 1)) (ap length ef ∙ length-set fs s k);

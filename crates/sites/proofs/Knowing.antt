@@ -2,14 +2,12 @@
 use mathlib.Core.Path.{_≡_, refl, ap, _∙_, sym, subst}
 use mathlib.Core.Logic.{_⊎_, inl, inr}
 use mathlib.Core.Bool.{false}
-use mathlib.Core.List.{List, [], _∷_, _++_, append-assoc, List·Memᴰ, List·Memᴰ·head, List·Memᴰ·tail, List·Memᴰ·not-nil, List·Memᴰ·cases-cons}
-use Prim.Native.Nat.{ℕ, suc, _+_, _*_, _≤_, _<_}
-use native.Mathlib.Numerals.{add-one}
+use mathlib.Core.List.{List, [], _∷_, List·Memᴰ, List·Memᴰ·head, List·Memᴰ·tail, List·Memᴰ·not-nil, List·Memᴰ·cases-cons}
+use Prim.Native.Nat.{ℕ, _+_, _*_, _≤_, _<_}
 use native.Mathlib.Omega.{arith}
 use borrow.Author.Tests.{eqb-true, eqb-false, eq-eqb, lt-ltb}
 use lib.Dec.{eqb}
-use lib.ListN.{length, take, set, replicate, length-set, length-replicate}
-use lib.Seq.{take-suc-set}
+use lib.ListN.{length, take, replicate, length-replicate}
 use Rattle.meaning.specs.declared.Edition.{Edition}
 use Rattle.meaning.specs.declared.Refusal.{Refusal}
 use Rattle.meaning.specs.Lists.{pick, both}
@@ -28,30 +26,12 @@ use Rattle.pool.specs.Naming.{kept, noteIfNamed, noteNamed, poolNoted}
 use Rattle.growth.specs.Sites.{sitesOf}
 use Rattle.growth.proofs.Resized.{Standing}
 use Rattle.growth.proofs.Pools.{pool-standing}
+use Rattle.walk.proofs.Putting.{put-there, put-length}
 use Rattle.sites.specs.Spelt.{blobAt}
 use Rattle.sites.specs.Marks.{tall, begin, Marked, SitesStart}
 use Rattle.sites.specs.Known.{Known, Surveyed}
 use Rattle.sites.proofs.Walks.{WalkedTo, pool-walked, walk-spelt, walked-few, walked-start}
 use Rattle.sites.proofs.Rows.{puts-length, site-here, site-count, sites-said}
-
--- what is put from at on stands there
-put-there : (l : List ℕ) (at : ℕ) (xs : List ℕ) → at + length xs ≤ length l → take (at + length xs) (putAll l at xs) ≡ take at l ++ xs
-unfolding putAll
-put-there l at [] h = let z : at + 0 ≡ at = omega arith in rw z (sym (append-none (take at l)))
-  where
-    append-none : (a : List ℕ) → a ++ [] ≡ a
-    append-none [] = refl
-    append-none (x ∷ a) = ap (λ (b : List ℕ). x ∷ b) (append-none a)
-put-there l at (x ∷ xs) h =
-    let z : at + suc (length xs) ≡ at + 1 + length xs = omega arith in
-    let k : at + 1 + length xs ≤ length (set l at x) = rw length-set (omega arith) in
-    let s : take (at + 1) (set l at x) ≡ take at l ++ (x ∷ []) = rw add-one (take-suc-set l at x (omega arith)) in
-    rw z (put-there (set l at x) (at + 1) xs k ∙ ap (λ (a : List ℕ). a ++ xs) s ∙ append-assoc (take at l) (x ∷ []) xs)
-
-put-length : (l : List ℕ) (at : ℕ) (xs : List ℕ) → length (putAll l at xs) ≡ length l
-unfolding putAll
-put-length l at [] = refl
-put-length l at (x ∷ xs) = put-length (set l at x) (at + 1) xs ∙ length-set l at x
 
 -- what was noted tells of the blob: its length, its leaves and their slots
 record Tells (n : ℕ) (b : Blob) (x : Noted) : Type 0 where

@@ -1,4 +1,4 @@
--- What the code notes against where the blocks stand: an equation for each way out of the block's visit and of the row's.
+-- What the code notes against where the blocks stand: an equation for each way out of the block's visit, and for each turn of the row's.
 use mathlib.Core.Path.{_≡_, refl, ap, _∙_, sym}
 use mathlib.Core.List.{List, [], _∷_, _++_, map}
 use Prim.Native.Nat.{ℕ, zero, suc, _+_, _-_, _*_}
@@ -19,12 +19,13 @@ unfolding puts
 puts-append f [] ys l = refl
 puts-append f (x ∷ xs) ys l = puts-append f xs ys (set l (x .0) (f (x .1)))
 
-noted-append : (xs ys : List (ℕ × Site)) (hs fs hs₁ fs₁ hs₂ fs₂ : List ℕ) → Marked xs hs fs hs₁ fs₁ → Marked ys hs₁ fs₁ hs₂ fs₂
-    → Marked (xs ++ ys) hs fs hs₂ fs₂
-noted-append xs ys hs fs hs₁ fs₁ hs₂ fs₂ a b = record {
-  heights = b .heights ∙ rw (a .heights) (sym (puts-append tall xs ys hs));
-  firsts = b .firsts ∙ rw (a .firsts) (sym (puts-append begin xs ys fs));
-}
+-- sites are being noted: with those that are left put in, the rows are what they become with all put into the rows at the start
+pub record Going (all rest : List (ℕ × Site)) (hs₀ fs₀ hs fs : List ℕ) : Type 0 where
+  pub heights : puts tall all hs₀ ≡ puts tall rest hs
+  pub firsts : puts begin all fs₀ ≡ puts begin rest fs
+
+pub row-begun : (all : List (ℕ × Site)) (hs fs : List ℕ) → Going all all hs fs hs fs
+row-begun all hs fs = record { heights = refl; firsts = refl }
 
 -- the first of some child slots, from number j on
 pub fours-first : (left j : ℕ) (b : List ℕ) → (left ≡ 0 → ⊥)
@@ -82,7 +83,7 @@ module _ (e : Edition) (P : List ℕ) where
     leaf-counted z = rw (z, leaf-leaves s)
 
     module _ (n : h ≡ 0 → ⊥) (blk : List ℕ) (eb : blk ≡ block e P s) (m : ℕ) (em : m ≡ countOf blk) where
-      children : fours m (drop (16 + 4 * 0) (block e P s)) ≡ childrenOf (block e P s)
+      children : fours m (drop 16 (block e P s)) ≡ childrenOf (block e P s)
       unfolding childrenOf
       children = rw (em, eb)
 
@@ -95,40 +96,66 @@ module _ (e : Edition) (P : List ℕ) where
             firsts = d .firsts ∙ ap (puts begin (rowSites e P g k (childrenOf (block e P s)))) ef;
           })
 
-      pub inner-noted : (hs₂ fs₂ : List ℕ) → Marked (rowSites e P (h - 1) k (fours m (drop (16 + 4 * 0) (block e P s)))) hs₁ fs₁ hs₂ fs₂
+      pub inner-noted : (hs₂ fs₂ : List ℕ) → Marked (rowSites e P (h - 1) k (fours m (drop 16 (block e P s)))) hs₁ fs₁ hs₂ fs₂
           → Marked (treeSites e P h k s) hs fs hs₂ fs₂
       inner-noted hs₂ fs₂ d = by-height (h - 1) (omega arith) hs₂ fs₂ (rw children at d)
 
-      pub inner-counted : (x : ℕ) → x ≡ k + rowLeaves e P (h - 1) (fours m (drop (16 + 4 * 0) (block e P s))) → x ≡ k + treeLeaves e P h s
+      pub inner-counted : (x : ℕ) → x ≡ k + rowLeaves e P (h - 1) (fours m (drop 16 (block e P s))) → x ≡ k + treeLeaves e P h s
       inner-counted x ex =
           let q : h ≡ suc (h - 1) = omega arith in
           ex ∙ ap (λ (z : ℕ). k + z) (rw children (sym (inner-leaves (h - 1) s)) ∙ ap (λ (z : ℕ). treeLeaves e P z s) (sym q))
 
-  -- no child
-  pub row-none : (w k left : ℕ) (l hs fs : List ℕ) → left ≡ 0 → Marked (rowSites e P w k (fours left l)) hs fs hs fs
-  unfolding fours puts
-  row-none w k left l hs fs z = rw (z, none-sites w k) (record { heights = refl; firsts = refl })
-
-  pub row-none-counted : (w k left : ℕ) (l : List ℕ) → left ≡ 0 → k ≡ k + rowLeaves e P w (fours left l)
+  -- no child is left
+  none-left : (w k left : ℕ) (l : List ℕ) → left ≡ 0 → rowSites e P w k (fours left l) ≡ []
   unfolding fours
-  row-none-counted w k left l z = rw (z, none-leaves w) (omega arith)
+  none-left w k left l z = rw (z, none-sites w k)
+
+  pub row-end : (w k left : ℕ) (l : List ℕ) (all : List (ℕ × Site)) (hs₀ fs₀ hs fs : List ℕ)
+      → Going all (rowSites e P w k (fours left l)) hs₀ fs₀ hs fs → left ≡ 0 → Marked all hs₀ fs₀ hs fs
+  unfolding puts
+  row-end w k left l all hs₀ fs₀ hs fs g z =
+      let n : rowSites e P w k (fours left l) ≡ [] = none-left w k left l z in
+      record {
+        heights = sym (g .heights ∙ ap (λ (xs : List (ℕ × Site)). puts tall xs hs) n);
+        firsts = sym (g .firsts ∙ ap (λ (xs : List (ℕ × Site)). puts begin xs fs) n);
+      }
+
+  pub row-end-counted : (w k left : ℕ) (l : List ℕ) (x : ℕ) → x ≡ k + rowLeaves e P w (fours left l) → left ≡ 0 → k ≡ x
+  unfolding fours
+  row-end-counted w k left l x ex z =
+      let n : rowLeaves e P w (fours left l) ≡ 0 = rw (z, none-leaves w) in
+      omega arith
 
   -- a child c and then the others
   module _ (w k p j left : ℕ) (some : left ≡ 0 → ⊥) (c : ℕ) (ec : c ≡ number (part (16 + 4 * j) 4 (block e P p)))
       (k₁ : ℕ) (ek : k₁ ≡ k + treeLeaves e P w c) where
-    first-is : fours left (drop (16 + 4 * j) (block e P p)) ≡ c ∷ fours (left - 1) (drop (16 + 4 * (j + 1)) (block e P p))
+    abbrev rest : List ℕ
+    rest = fours (left - 1) (drop (16 + 4 * (j + 1)) (block e P p))
+
+    first-is : fours left (drop (16 + 4 * j) (block e P p)) ≡ c ∷ rest
     first-is = rw (fours-first left j (block e P p) some, ← ec)
 
-    pub row-on : (hs fs hs₁ fs₁ hs₂ fs₂ : List ℕ) → Marked (treeSites e P w k c) hs fs hs₁ fs₁
-        → Marked (rowSites e P w k₁ (fours (left - 1) (drop (16 + 4 * (j + 1)) (block e P p)))) hs₁ fs₁ hs₂ fs₂
-        → Marked (rowSites e P w k (fours left (drop (16 + 4 * j) (block e P p)))) hs fs hs₂ fs₂
-    row-on hs fs hs₁ fs₁ hs₂ fs₂ a b =
-        rw (first-is, row-sites w k c _) (noted-append _ _ hs fs hs₁ fs₁ hs₂ fs₂ a (rw ek at b))
+    sites-first : rowSites e P w k (fours left (drop (16 + 4 * j) (block e P p))) ≡ treeSites e P w k c ++ rowSites e P w k₁ rest
+    sites-first = rw (first-is, ek) (row-sites w k c rest)
 
-    pub row-on-counted : (x : ℕ) → x ≡ k₁ + rowLeaves e P w (fours (left - 1) (drop (16 + 4 * (j + 1)) (block e P p)))
-        → x ≡ k + rowLeaves e P w (fours left (drop (16 + 4 * j) (block e P p)))
+    pub row-on : (all : List (ℕ × Site)) (hs₀ fs₀ hs fs hs₁ fs₁ : List ℕ)
+        → Going all (rowSites e P w k (fours left (drop (16 + 4 * j) (block e P p)))) hs₀ fs₀ hs fs
+        → Marked (treeSites e P w k c) hs fs hs₁ fs₁ → Going all (rowSites e P w k₁ rest) hs₀ fs₀ hs₁ fs₁
+    row-on all hs₀ fs₀ hs fs hs₁ fs₁ g a = record {
+      heights = g .heights ∙ ap (λ (xs : List (ℕ × Site)). puts tall xs hs) sites-first
+          ∙ puts-append tall (treeSites e P w k c) (rowSites e P w k₁ rest) hs
+          ∙ ap (puts tall (rowSites e P w k₁ rest)) (sym (a .heights));
+      firsts = g .firsts ∙ ap (λ (xs : List (ℕ × Site)). puts begin xs fs) sites-first
+          ∙ puts-append begin (treeSites e P w k c) (rowSites e P w k₁ rest) fs
+          ∙ ap (puts begin (rowSites e P w k₁ rest)) (sym (a .firsts));
+    }
+
+    pub row-on-counted : (x : ℕ) → x ≡ k + rowLeaves e P w (fours left (drop (16 + 4 * j) (block e P p)))
+        → x ≡ k₁ + rowLeaves e P w rest
     row-on-counted x ex =
-        ex ∙ rw (first-is) (omega (arith, ek, row-leaves w c (fours (left - 1) (drop (16 + 4 * (j + 1)) (block e P p)))))
+        let l : rowLeaves e P w (fours left (drop (16 + 4 * j) (block e P p))) ≡ treeLeaves e P w c + rowLeaves e P w rest
+        = rw first-is (row-leaves w c rest) in
+        omega (arith, ek)
 
 -- a blob
 pub blob-noted : (e : Edition) (P : List ℕ) (r : ℕ) (blk : List ℕ) → blk ≡ block e P r → (h : ℕ) → h ≡ heightOf blk → (hs fs hs′ fs′ : List ℕ)

@@ -45,10 +45,10 @@ fn note_block(
         return leaves + 1;
     }
     let count = block::check::count_of(slot::block_of(e, pool, slot));
-    note_row(e, pool, heights, firsts, n, h - 1, slot, 0, count, leaves)
+    note_row(e, pool, heights, firsts, n, h - 1, slot, count, leaves)
 }
 
-// Notes the children of a block from number `from` on, of which there are `left`, each of height w.
+// Notes the children of a block, so many, each of height w, in order.
 fn note_row(
     e: Edition,
     pool: &[u8],
@@ -57,32 +57,47 @@ fn note_row(
     n: usize,
     w: usize,
     parent: usize,
-    from: usize,
-    left: usize,
+    count: usize,
     leaves: usize,
 ) -> usize
     requires { ⌜ Proper e ⌝ }
-    requires { ⌜ RowStart e n (now pool) (now heights) (now firsts) w parent from left leaves ⌝ }
-    ensures { λ r. ⌜ Marked (rowSites e (now (pool .entry)) w leaves (fours left (drop (16 + 4 * from) (block e (now (pool .entry)) parent)))) (now (heights .entry)) (now (firsts .entry)) (now (heights .exit)) (now (firsts .exit)) ⌝ }
-    ensures { λ r. ⌜ r ≡ leaves + rowLeaves e (now (pool .entry)) w (fours left (drop (16 + 4 * from) (block e (now (pool .entry)) parent))) ⌝ }
+    requires { ⌜ RowStart e n (now pool) (now heights) (now firsts) w parent 0 count leaves ⌝ }
+    ensures { λ r. ⌜ Marked (rowSites e (now (pool .entry)) w leaves (fours count (drop 16 (block e (now (pool .entry)) parent)))) (now (heights .entry)) (now (firsts .entry)) (now (heights .exit)) (now (firsts .exit)) ⌝ }
+    ensures { λ r. ⌜ r ≡ leaves + rowLeaves e (now (pool .entry)) w (fours count (drop 16 (block e (now (pool .entry)) parent))) ⌝ }
 {
-    if left == 0 {
-        return leaves;
+    let mut k = leaves;
+    let mut from = 0;
+    let mut left = count;
+    while left != 0 {
+        let child = visit::child_of(e, pool, parent, from);
+        k = note_child(e, pool, heights, firsts, n, w, child, k);
+        from += 1;
+        left -= 1;
     }
-    let child = visit::child_of(e, pool, parent, from);
-    let k = note_block(e, pool, heights, firsts, n, w, child, leaves);
-    note_row(
-        e,
-        pool,
-        heights,
-        firsts,
-        n,
-        w,
-        parent,
-        from + 1,
-        left - 1,
-        k,
-    )
+    k
+}
+
+// Notes a child of a block: as a block is noted, but for a leaf with no further call.
+fn note_child(
+    e: Edition,
+    pool: &[u8],
+    heights: &mut [u8],
+    firsts: &mut [u32],
+    n: usize,
+    w: usize,
+    slot: usize,
+    leaves: usize,
+) -> usize
+    requires { ⌜ Proper e ⌝ }
+    requires { ⌜ BlockStart e n (now pool) (now heights) (now firsts) w slot leaves ⌝ }
+    ensures { λ r. ⌜ Marked (treeSites e (now (pool .entry)) w leaves slot) (now (heights .entry)) (now (firsts .entry)) (now (heights .exit)) (now (firsts .exit)) ⌝ }
+    ensures { λ r. ⌜ r ≡ leaves + treeLeaves e (now (pool .entry)) w slot ⌝ }
+{
+    if w == 0 {
+        note_slot(heights, firsts, slot, w, leaves);
+        return leaves + 1;
+    }
+    note_block(e, pool, heights, firsts, n, w, slot, leaves)
 }
 
 // Notes the blocks of the blob with that root.

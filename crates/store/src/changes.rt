@@ -1,5 +1,4 @@
 // The calls that change the store. A refusal writes nothing anywhere.
-use gate::Opened;
 use meaning::Changed;
 use meaning::Created;
 use meaning::Finished;
@@ -23,12 +22,7 @@ pub fn create(pool: &mut [u8], records: &mut [u8]) -> Created
     let mut seen = [0u8; 1024];
     let mut row = [0u32; 0];
     let mut scratch = [0u8; 64];
-    match gate::open(e, pool, records) {
-        Opened::Refused(r) => Created::Refused(r),
-        Opened::Slots(n) => {
-            making::create_in(e, pool, records, &mut seen[0..n], &mut row, &mut scratch, n)
-        }
-    }
+    making::create_call(e, pool, records, &mut seen, &mut row, &mut scratch)
 }
 
 // Every block of a blob goes.
@@ -41,23 +35,17 @@ pub fn delete(pool: &mut [u8], records: &mut [u8], root: u64) -> Changed
     let mut heights = [0u8; 1024];
     let mut firsts = [0u32; 1024];
     let mut scratch = [0u8; 64];
-    match gate::open(e, pool, records) {
-        Opened::Refused(r) => Changed::Refused(r),
-        Opened::Slots(n) => {
-            clearing::delete_in(
-                e,
-                pool,
-                records,
-                &mut seen[0..n],
-                &mut row[0..n],
-                &mut heights[0..n],
-                &mut firsts[0..n],
-                &mut scratch,
-                n,
-                root,
-            )
-        }
-    }
+    clearing::delete_call(
+        e,
+        pool,
+        records,
+        &mut seen,
+        &mut row,
+        &mut heights,
+        &mut firsts,
+        &mut scratch,
+        root,
+    )
 }
 
 // Bytes are put inside a blob's present length, from an offset on.
@@ -69,24 +57,18 @@ pub fn write(pool: &mut [u8], records: &mut [u8], root: u64, offset: u64, src: &
     let mut row = [0u32; 1024];
     let mut heights = [0u8; 1024];
     let mut firsts = [0u32; 1024];
-    match gate::open(e, pool, records) {
-        Opened::Refused(r) => Changed::Refused(r),
-        Opened::Slots(n) => {
-            writing::write_in(
-                e,
-                pool,
-                records,
-                &mut seen[0..n],
-                &mut row[0..n],
-                &mut heights[0..n],
-                &mut firsts[0..n],
-                n,
-                root,
-                offset,
-                src,
-            )
-        }
-    }
+    writing::write_call(
+        e,
+        pool,
+        records,
+        &mut seen,
+        &mut row,
+        &mut heights,
+        &mut firsts,
+        root,
+        offset,
+        src,
+    )
 }
 
 // A blob gets another length: cut, or filled with zeros.
@@ -101,24 +83,18 @@ pub fn resize(pool: &mut [u8], records: &mut [u8], root: u64, length: u64) -> Ch
     let mut kept = [0u8; 64];
     let mut payload = [0u8; 48];
     let mut scratch = [0u8; 64];
-    match gate::open(e, pool, records) {
-        Opened::Refused(r) => Changed::Refused(r),
-        Opened::Slots(n) => {
-            sizing::resize_in(
-                e,
-                pool,
-                records,
-                &mut seen[0..n],
-                &mut row[0..n],
-                &mut heights[0..n],
-                &mut firsts[0..n],
-                &mut kept,
-                &mut payload,
-                &mut scratch,
-                n,
-                root,
-                length,
-            )
-        }
-    }
+    sizing::resize_call(
+        e,
+        pool,
+        records,
+        &mut seen,
+        &mut row,
+        &mut heights,
+        &mut firsts,
+        &mut kept,
+        &mut payload,
+        &mut scratch,
+        root,
+        length,
+    )
 }

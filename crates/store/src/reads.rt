@@ -1,17 +1,14 @@
 // The calls that read: length, read, find a leaf, show it, audit. Any bytes, roots, offsets and leaves may come in.
-use gate::Opened;
 use meaning::Audit;
 use meaning::Finished;
 use meaning::Leaf;
 use meaning::Length;
-use meaning::Named;
 ghost use mathlib.Core.Path.{_≡_};
 ghost use lib.ListN.{length};
 ghost use Rattle.meaning.specs.Edition.{one};
-ghost use Rattle.meaning.specs.Refusals.{slotNumber};
 ghost use Rattle.meaning.specs.Calls.{lengthCall, readCall, showCall, auditCall};
 ghost use Rattle.meaning.specs.Answers.{lengthAnswer, auditAnswer, leafAnswer, Reads, shownPart, shownNumber, shownSlot};
-ghost use Rattle.reading.specs.Spelling.{Lies};
+ghost use Rattle.locating.specs.Placing.{Lies};
 
 // The length of a blob.
 pub fn length(pool: &[u8], records: &[u8], root: u64) -> Length
@@ -20,12 +17,7 @@ pub fn length(pool: &[u8], records: &[u8], root: u64) -> Length
     let e = meaning::edition_one();
     let mut seen = [0u8; 1024];
     let mut row = [0u32; 1024];
-    match gate::open(e, pool, records) {
-        Opened::Refused(r) => Length::Refused(r),
-        Opened::Slots(n) => {
-            reading::length::length_in(e, pool, records, &mut seen[0..n], &mut row[0..n], n, root)
-        }
-    }
+    measuring::length_call(e, pool, records, &mut seen, &mut row, root)
 }
 
 // The whole of out is filled from the offset on, or out is left as it is.
@@ -35,22 +27,7 @@ pub fn read(pool: &[u8], records: &[u8], root: u64, offset: u64, out: &mut [u8])
     let e = meaning::edition_one();
     let mut seen = [0u8; 1024];
     let mut row = [0u32; 1024];
-    match gate::open(e, pool, records) {
-        Opened::Refused(r) => Finished::Refused(r),
-        Opened::Slots(n) => {
-            reading::read::read_in(
-                e,
-                pool,
-                records,
-                &mut seen[0..n],
-                &mut row[0..n],
-                n,
-                root,
-                offset,
-                out,
-            )
-        }
-    }
+    fetching::read_call(e, pool, records, &mut seen, &mut row, root, offset, out)
 }
 
 // Where a leaf's data bytes lie in the pool.
@@ -61,30 +38,7 @@ pub fn find_leaf(pool: &[u8], records: &[u8], root: u64, leaf: u64) -> Leaf
     let e = meaning::edition_one();
     let mut seen = [0u8; 1024];
     let mut row = [0u32; 1024];
-    match gate::open(e, pool, records) {
-        Opened::Refused(r) => Leaf::Refused(r),
-        Opened::Slots(n) => {
-            reading::leaf::find_leaf_in(
-                e,
-                pool,
-                records,
-                &mut seen[0..n],
-                &mut row[0..n],
-                n,
-                root,
-                leaf,
-            )
-        }
-    }
-}
-
-fn slot_number(named: Named) -> u64
-    ensures { λ r. ⌜ r ≡ slotNumber named ⌝ }
-{
-    match named {
-        Named::Nowhere => 0xFFFF_FFFF_FFFF_FFFF,
-        Named::Slot(s) => s,
-    }
+    locating::find_leaf_call(e, pool, records, &mut seen, &mut row, root, leaf)
 }
 
 // A leaf's data bytes as they lie in the pool. Number and slot are those of a refusal, which shows an empty part; 0 and no slot otherwise.
@@ -111,7 +65,7 @@ pub fn show<'a>(
         Leaf::Refused(r) => {
             let named = r.named;
             *number = r.number;
-            *slot = slot_number(named);
+            *slot = answers::slot_number(named);
             &pool[0..0]
         }
     }
@@ -124,15 +78,5 @@ pub fn audit(pool: &[u8], records: &[u8]) -> Audit
     let e = meaning::edition_one();
     let mut seen = [0u8; 1024];
     let mut row = [0u32; 0];
-    match gate::open(e, pool, records) {
-        Opened::Refused(r) => Audit::Refused(r),
-        Opened::Slots(n) => reading::audit::audit_in(
-            e,
-            pool,
-            records,
-            &mut seen[0..n],
-            &mut row,
-            n,
-        ),
-    }
+    auditing::audit_call(e, pool, records, &mut seen, &mut row)
 }

@@ -1,84 +1,60 @@
 // The script's commands, one after the other.
-use crate::dump;
-use crate::run;
-use vectors_lay::lay;
-use vectors_lay::next;
-use vectors_lay::text;
-use vectors_lay::text::Numbers;
-use vectors_say::reads;
+use vectors_text::next;
+use vectors_text::next::Place;
+use vectors_text::steps;
+use vectors_text::text;
+use vectors_text::text::Command;
 
-// A command that changes the store.
-fn change(label: &[u8], name: u8, n: Numbers, pool: &mut [u8], records: &mut [u8]) {
-    match name {
-        b'O' => run::wipe(label, pool, records),
-        b'N' => run::create(label, pool, records),
-        b'W' => run::write(label, pool, records, n.a, n.b, n.c, n.d as usize),
-        b'Z' => run::resize(label, pool, records, n.a, n.b),
-        b'D' => run::delete(label, pool, records, n.a),
-        b'Y' => run::rooted(label, pool, records, n.a),
-        b'X' => run::every(label, pool, records, n.a),
-        _ => {}
+// A command that reads the store, or prints it.
+fn look(label: &[u8], c: Command, pool: &[u8], records: &[u8]) {
+    vectors_read_calls::call(label, c, pool, records);
+    vectors_dump::call(label, c, pool, records);
+}
+
+// A command of one step.
+fn call(label: &[u8], c: Command, pool: &mut [u8], records: &mut [u8]) {
+    vectors_change_calls::call(label, c, pool, records);
+    look(label, c, pool, records);
+}
+
+// A command's steps.
+fn call_all(label: &[u8], c: Command, pool: &mut [u8], records: &mut [u8]) {
+    let mut i: usize = 0;
+    while i < 5 {
+        call(label, steps::step(c, i), pool, records);
+        i += 1;
     }
 }
 
-// A command that reads the store.
-fn read(label: &[u8], name: u8, n: Numbers, pool: &[u8], records: &[u8]) {
-    match name {
-        b'L' => reads::length(label, pool, records, n.a),
-        b'R' => reads::read(label, pool, records, n.a, n.b, n.c as usize),
-        b'F' => reads::find(label, pool, records, n.a, n.b),
-        b'A' => reads::audit(label, pool, records),
-        b'H' => dump::hex(label, pool, records),
-        b'T' => dump::one(label, pool, records, n.a),
-        b'G' => dump::sums(label, pool, records),
-        _ => {}
-    }
-}
-
-fn call(label: &[u8], name: u8, n: Numbers, pool: &mut [u8], records: &mut [u8]) {
-    change(label, name, n, pool, records);
-    read(label, name, n, pool, records);
-}
-
-// A command over the store whose lengths are given, with the label that starts at `label`.
-fn carry_out(
-    text: &[u8],
-    label: usize,
-    name: u8,
-    n: Numbers,
-    pool: &mut [u8],
-    pool_end: usize,
-    records: &mut [u8],
-    records_end: usize,
-) {
-    lay::store(name, pool, records);
-    lay::part(name, n, pool, records);
+// A command over the store whose lengths the place has, if the slices have them.
+fn call_within(label: &[u8], c: Command, place: Place, pool: &mut [u8], records: &mut [u8]) {
+    let pool_end = place.pool_end;
+    let records_end = place.records_end;
     if pool_end <= pool.len() && records_end <= records.len() {
-        call(
-            text::line_from(text, label),
-            name,
-            n,
+        call_all(
+            label,
+            c,
             &mut pool[0..pool_end],
             &mut records[0..records_end],
         );
     }
 }
 
+// A command lays something out, or is carried out over the store that was.
+fn carry_out(text: &[u8], c: Command, place: Place, pool: &mut [u8], records: &mut [u8]) {
+    vectors_lay::lay(c, pool, records);
+    let label = text::line_from(text, place.label);
+    call_within(label, c, place, pool, records);
+}
+
 // Each turn takes a byte of the script or more.
 pub fn play(text: &[u8], pool: &mut [u8], records: &mut [u8]) {
-    let mut at: usize = 0;
-    let mut label: usize = 0;
-    let mut pool_end: usize = 0;
-    let mut records_end: usize = 0;
+    let mut place = next::start();
     let mut turns: u32 = 0;
     while turns < 65536 {
-        let name = text::byte_at(text, at);
-        let n = text::five_numbers(text, at);
-        label = next::label_after(name, label, at);
-        pool_end = next::length_after(name, pool_end, n.a, 256);
-        records_end = next::length_after(name, records_end, n.b, 48);
-        carry_out(text, label, name, n, pool, pool_end, records, records_end);
-        at = next::after(text, name, at, n.next);
+        let c = text::command_at(text, place.at);
+        place = next::after(text, c, place);
+        carry_out(text, c, place, pool, records);
         turns += 1;
     }
 }

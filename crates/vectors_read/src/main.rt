@@ -1,6 +1,5 @@
 // Plays a script of test vectors: its input lays stores out byte by byte and names calls. Each call is one printed line. The file
 // stdin is the script, with its commands explained at its top; the file stdout was written by hand from document 01.
-mod run;
 mod script;
 
 fn main() {

@@ -1,3 +1,3 @@
-// What every program of test vectors prints: the parts of a line, and the reading calls, each run once.
-pub mod reads;
+// For the programs of test vectors: the parts of a printed line, and a line up to its answer.
+pub mod heads;
 pub mod say;

@@ -1,4 +1,4 @@
--- The code's walk against the definition's: an equation for each way out of the block visit and of the row visit.
+-- The code's walk against the definition's: an equation for each way out of the block visit, and for each turn of the row visit.
 -- Bytes and leaves so far go in and come out, so a row's answer is that of its last child, or of the first that fails.
 use mathlib.Core.Path.{_≡_, refl, ap, ap₂, _∙_, sym}
 use mathlib.Core.Bool.{Bool, true, false, not}
@@ -130,7 +130,7 @@ row-tree h b k s o (fine ts seen) = refl
 
 notes-below : (e : Edition) (N : ℕ) (P R : List ℕ) (h : ℕ) (edge : Bool) (seen : List ℕ) (s b k : ℕ) (o : List ℕ) (c : ℕ)
     → c ≡ countOf (block e P s) → (h ≡ 0 → ⊥)
-    → notes e N P R (h - 1) s edge (fours c (drop (16 + 4 * 0) (block e P s))) seen b k o
+    → notes e N P R (h - 1) s edge (fours c (drop 16 (block e P s))) seen b k o
     ≡ mapFound (noteTree h b k o) (below e N P R h edge s (block e P s) seen)
 unfolding notes below childrenOf
 notes-below e N P R zero edge seen s b k o c ec n = absurd (n refl)
@@ -161,17 +161,36 @@ module _ (e : Edition) (N : ℕ) (P R : List ℕ) (h : ℕ) (role : Role) (edge 
     note-leaf z m em ox eo = rw eo (leaf-below e N P R edge seen₁ s b k o m h z em) ∙ sym note-in
 
     pub note-inner : (h ≡ 0 → ⊥) → (blk : List ℕ) → blk ≡ block e P s → (m : ℕ) → m ≡ countOf blk → (r : Walked) (sx ox : List ℕ)
-        → met r sx ox ≡ notes e N P R (h - 1) s edge (fours m (drop (16 + 4 * 0) (block e P s))) seen₁ b k o
+        → met r sx ox ≡ notes e N P R (h - 1) s edge (fours m (drop 16 (block e P s))) seen₁ b k o
         → met r sx ox ≡ note e N P R h role edge seen s b k o
     note-inner n blk eb m em r sx ox er = er ∙ notes-below e N P R h edge seen₁ s b k o m (em ∙ ap countOf eb) n ∙ sym note-in
 
--- the row visit
-pub notes-none : (e : Edition) (N : ℕ) (P R : List ℕ) (w p : ℕ) (edge : Bool) (left : ℕ) (l seen : List ℕ) (b k : ℕ) (o : List ℕ)
-    → left ≡ 0 → met (Fine b k) seen o ≡ notes e N P R w p edge (fours left l) seen b k o
-unfolding notes met fours row mapFound noteRow noteLeaves joined putAll
-notes-none e N P R w p edge left l seen b k o z = rw z (ap (λ (x : Noted). fine x seen) (same-noted (omega arith) (omega arith) refl))
+-- a leaf is a block of height 0
+pub note-zero : (e : Edition) (N : ℕ) (P R : List ℕ) (role : Role) (edge : Bool) (seen : List ℕ) (s b k : ℕ) (o : List ℕ) (x : Found Noted) (h : ℕ)
+    → h ≡ 0 → x ≡ note e N P R 0 role edge seen s b k o → x ≡ note e N P R h role edge seen s b k o
+note-zero e N P R role edge seen s b k o x h z ex = rw z ex
 
--- c is the first child, visited by here, which leaves flags sy and row oy
+-- the visit of a child
+pub note-child : (e : Edition) (N : ℕ) (P R : List ℕ) (h p : ℕ) (role : Role) (edge : Bool) (seen : List ℕ) (s b k : ℕ) (o : List ℕ) (x : Found Noted)
+    → role ≡ Child p → x ≡ note e N P R h role edge seen s b k o → x ≡ note e N P R h (Child p) edge seen s b k o
+note-child e N P R h p role edge seen s b k o x er ex = rw er at ex
+
+pub note-child-leaf : (e : Edition) (N : ℕ) (P R : List ℕ) (h p : ℕ) (role : Role) (edge : Bool) (seen : List ℕ) (s b k : ℕ) (o : List ℕ) (x : Found Noted)
+    → h ≡ 0 → role ≡ Child p → x ≡ note e N P R 0 role edge seen s b k o → x ≡ note e N P R h (Child p) edge seen s b k o
+note-child-leaf e N P R h p role edge seen s b k o x z er ex =
+    note-zero e N P R (Child p) edge seen s b k o x h z (note-child e N P R 0 p role edge seen s b k o x er ex)
+
+-- the row visit
+notes-none : (e : Edition) (N : ℕ) (P R : List ℕ) (w p : ℕ) (edge : Bool) (l seen : List ℕ) (b k : ℕ) (o : List ℕ)
+    → met (Fine b k) seen o ≡ notes e N P R w p edge (fours 0 l) seen b k o
+unfolding notes met fours row mapFound noteRow noteLeaves joined putAll
+notes-none e N P R w p edge l seen b k o = ap (λ (x : Noted). fine x seen) (same-noted (omega arith) (omega arith) refl)
+
+pub notes-end : (e : Edition) (N : ℕ) (P R : List ℕ) (w p : ℕ) (edge : Bool) (left : ℕ) (l seen : List ℕ) (b k : ℕ) (o : List ℕ)
+    (all : Found Noted) → all ≡ notes e N P R w p edge (fours left l) seen b k o → left ≡ 0 → met (Fine b k) seen o ≡ all
+notes-end e N P R w p edge left l seen b k o all ea z = rw (ea, z) (notes-none e N P R w p edge l seen b k o)
+
+-- c is the first child of those left, visited by here, which leaves flags sy and row oy; all is what the whole row comes to
 module _ (e : Edition) (N : ℕ) (P R : List ℕ) (w p : ℕ) (edge : Bool) (left j : ℕ) (seen : List ℕ) (b k : ℕ) (o : List ℕ)
     (some : left ≡ 0 → ⊥) (c : ℕ) (ec : c ≡ number (part (16 + 4 * j) 4 (block e P p))) (last : Bool) (el : last ≡ lastOf edge left)
     (here : Walked) (sy oy : List ℕ) (eh : met here sy oy ≡ note e N P R w (Child p) last seen c b k o) where
@@ -190,14 +209,14 @@ module _ (e : Edition) (N : ℕ) (P R : List ℕ) (w p : ℕ) (edge : Bool) (lef
       ∙ notes-cons e N P R w p edge c rest seen b k o
       ∙ rw (l, ← eh)
 
-  pub notes-stop : (r : Refusal) → here ≡ Fault r → (sx ox : List ℕ) → met here sx ox ≡ whole
-  unfolding met andThen
-  notes-stop r er sx ox = rw (whole-is, er)
+  module _ (all : Found Noted) (ea : all ≡ whole) where
+    pub notes-stop : (r : Refusal) → here ≡ Fault r → (sx ox : List ℕ) → met here sx ox ≡ all
+    unfolding met andThen
+    notes-stop r er sx ox = rw (ea, whole-is, er)
 
-  pub notes-on : (b′ k′ : ℕ) → here ≡ Fine b′ k′ → (then : Walked) (sz oz : List ℕ)
-      → met then sz oz ≡ notes e N P R w p edge rest sy b′ k′ oy → met then sz oz ≡ whole
-  unfolding met andThen
-  notes-on b′ k′ eb then sz oz et = rw (whole-is, eb) et
+    pub notes-on : (b′ k′ : ℕ) → here ≡ Fine b′ k′ → all ≡ notes e N P R w p edge rest sy b′ k′ oy
+    unfolding met andThen
+    notes-on b′ k′ eb = rw (ea, whole-is, eb)
 
 -- the walk from one root
 root-noted : (h : ℕ) (o : List ℕ) (F : Found (Tree h))

@@ -35,6 +35,36 @@ fn last_of(edge: bool, left: usize) -> bool
     if edge { left == 1 } else { false }
 }
 
+// Visits a leaf, and notes its slot.
+fn visit_leaf(
+    e: Edition,
+    pool: &[u8],
+    records: &[u8],
+    seen: &mut [u8],
+    row: &mut [u32],
+    n: usize,
+    role: Role,
+    edge: bool,
+    slot: usize,
+    bytes: u64,
+    leaves: usize,
+) -> Walked
+    requires { ⌜ Proper e ⌝ }
+    requires { ⌜ BlockStart e n (now pool) (now records) (now seen) role slot bytes leaves ⌝ }
+    ensures { λ r. ⌜ met r (now (seen .exit)) (now (row .exit)) ≡ note e n (now (pool .entry)) (now (records .entry)) 0 role edge (now (seen .entry)) slot bytes leaves (now (row .entry)) ⌝ }
+    ensures { λ r. ⌜ Small r (now (seen .exit)) ⌝ }
+{
+    let checked = visit::visit(e, pool, records, seen, n, 0, role, edge, slot);
+    match checked {
+        Checked::Faulty(r) => Walked::Fault(r),
+        Checked::Passed => {
+            let count = block::check::count_of(slot::block_of(e, pool, slot));
+            note_leaf(row, leaves, slot);
+            Walked::Fine(bytes + count as u64, leaves + 1)
+        }
+    }
+}
+
 // Visits a block of height h, and then its row. The slots of its leaves are noted in order.
 fn visit_block(
     e: Edition,
@@ -55,15 +85,26 @@ fn visit_block(
     ensures { λ r. ⌜ met r (now (seen .exit)) (now (row .exit)) ≡ note e n (now (pool .entry)) (now (records .entry)) h role edge (now (seen .entry)) slot bytes leaves (now (row .entry)) ⌝ }
     ensures { λ r. ⌜ Small r (now (seen .exit)) ⌝ }
 {
+    if h == 0 {
+        return visit_leaf(
+            e,
+            pool,
+            records,
+            seen,
+            row,
+            n,
+            role,
+            edge,
+            slot,
+            bytes,
+            leaves,
+        );
+    }
     let checked = visit::visit(e, pool, records, seen, n, h, role, edge, slot);
     match checked {
         Checked::Faulty(r) => Walked::Fault(r),
         Checked::Passed => {
             let count = block::check::count_of(slot::block_of(e, pool, slot));
-            if h == 0 {
-                note_leaf(row, leaves, slot);
-                return Walked::Fine(bytes + count as u64, leaves + 1);
-            }
             visit_row(
                 e,
                 pool,
@@ -74,7 +115,6 @@ fn visit_block(
                 h - 1,
                 slot,
                 edge,
-                0,
                 count,
                 bytes,
                 leaves,
@@ -83,7 +123,7 @@ fn visit_block(
     }
 }
 
-// Visits the children of a block from number `from` on, of which there are `left`, each of height w.
+// Visits the children of a block, so many, each of height w, in order.
 fn visit_row(
     e: Edition,
     pool: &[u8],
@@ -94,23 +134,71 @@ fn visit_row(
     w: usize,
     parent: usize,
     edge: bool,
-    from: usize,
-    left: usize,
+    count: usize,
     bytes: u64,
     leaves: usize,
 ) -> Walked
     requires { ⌜ Proper e ⌝ }
-    requires { ⌜ RowStart e n (now pool) (now records) (now seen) parent from left bytes leaves ⌝ }
-    ensures { λ r. ⌜ met r (now (seen .exit)) (now (row .exit)) ≡ notes e n (now (pool .entry)) (now (records .entry)) w parent edge (fours left (drop (16 + 4 * from) (block e (now (pool .entry)) parent))) (now (seen .entry)) bytes leaves (now (row .entry)) ⌝ }
+    requires { ⌜ RowStart e n (now pool) (now records) (now seen) parent 0 count bytes leaves ⌝ }
+    ensures { λ r. ⌜ met r (now (seen .exit)) (now (row .exit)) ≡ notes e n (now (pool .entry)) (now (records .entry)) w parent edge (fours count (drop 16 (block e (now (pool .entry)) parent))) (now (seen .entry)) bytes leaves (now (row .entry)) ⌝ }
     ensures { λ r. ⌜ Small r (now (seen .exit)) ⌝ }
 {
-    if left == 0 {
-        return Walked::Fine(bytes, leaves);
+    let mut b = bytes;
+    let mut k = leaves;
+    let mut from = 0;
+    let mut left = count;
+    while left != 0 {
+        let child = visit::child_of(e, pool, parent, from);
+        let last = last_of(edge, left);
+        let here = visit_child(e, pool, records, seen, row, n, w, parent, last, child, b, k);
+        let Walked::Fine(more, further) = here else {
+            return here;
+        };
+        b = more;
+        k = further;
+        from += 1;
+        left -= 1;
     }
-    let child = visit::child_of(e, pool, parent, from);
-    let last = last_of(edge, left);
+    Walked::Fine(b, k)
+}
+
+// Visits a child of a block: the leaf visit, or the block visit, which would come to the same. A call for each leaf takes longer.
+fn visit_child(
+    e: Edition,
+    pool: &[u8],
+    records: &[u8],
+    seen: &mut [u8],
+    row: &mut [u32],
+    n: usize,
+    w: usize,
+    parent: usize,
+    edge: bool,
+    slot: usize,
+    bytes: u64,
+    leaves: usize,
+) -> Walked
+    requires { ⌜ Proper e ⌝ }
+    requires { ⌜ BlockStart e n (now pool) (now records) (now seen) (Role.Child parent) slot bytes leaves ⌝ }
+    ensures { λ r. ⌜ met r (now (seen .exit)) (now (row .exit)) ≡ note e n (now (pool .entry)) (now (records .entry)) w (Role.Child parent) edge (now (seen .entry)) slot bytes leaves (now (row .entry)) ⌝ }
+    ensures { λ r. ⌜ Small r (now (seen .exit)) ⌝ }
+{
     let role = Role::Child(parent);
-    let here = visit_block(
+    if w == 0 {
+        return visit_leaf(
+            e,
+            pool,
+            records,
+            seen,
+            row,
+            n,
+            role,
+            edge,
+            slot,
+            bytes,
+            leaves,
+        );
+    }
+    visit_block(
         e,
         pool,
         records,
@@ -119,28 +207,10 @@ fn visit_row(
         n,
         w,
         role,
-        last,
-        child,
+        edge,
+        slot,
         bytes,
         leaves,
-    );
-    let Walked::Fine(b, k) = here else {
-        return here;
-    };
-    visit_row(
-        e,
-        pool,
-        records,
-        seen,
-        row,
-        n,
-        w,
-        parent,
-        edge,
-        from + 1,
-        left - 1,
-        b,
-        k,
     )
 }
 

@@ -1,43 +1,43 @@
 -- Write, need by need: the loop's turns, refusals 12 and 10, and the ends of the call.
 use mathlib.Core.Path.{_≡_, ap, _∙_, sym}
-use mathlib.Core.Bool.{Bool, true, false, not}
+use mathlib.Core.Bool.{Bool, true, false}
 use mathlib.Core.List.{List, [], _∷_}
 use mathlib.Core.Logic.{_⊎_, inl, inr}
 use Prim.Native.Nat.{ℕ, _+_, _-_, _*_, _≤_, _<_}
 use native.Mathlib.Omega.{arith}
-use borrow.Author.Tests.{eq-eqb, ne-eqb, eqb-true, lt-ltb, le-ltb, ltb-true, ltb-false, not-false}
+use borrow.Author.Tests.{eq-eqb, ne-eqb, lt-ltb, le-ltb, ltb-false}
 use lib.Dec.{eqb, ltb}
 use lib.ListN.{length}
 use Rattle.meaning.specs.declared.Edition.{Edition}
 use Rattle.meaning.specs.declared.Refusal.{Refusal}
 use Rattle.meaning.specs.declared.Changed.{Changed}
 use Rattle.meaning.specs.declared.Changed.the-variants as changed
-use Rattle.meaning.specs.Lists.{pick, both}
+use Rattle.meaning.specs.Lists.{pick}
 use Rattle.meaning.specs.Edition.{Proper}
 use Rattle.meaning.specs.Bytes.{block, dataOf, recorded, recordAt, recordOf, state, encoded}
 use Rattle.meaning.specs.Tree.{lengthOf}
 use Rattle.meaning.specs.Refusals.{nowhere}
 use Rattle.meaning.specs.Change.{Change, puts, renewed, changedBy}
-use Rattle.meaning.specs.Calls.{done, refuseIf, refusePast, rooted, changing, writeOn, writeIn, after}
+use Rattle.meaning.specs.Calls.{done, slotsIn, refuseIf, refusePast, writeOn, writeIn, writeCall, after}
 use Rattle.meaning.specs.Answers.{changeAnswer, Ends}
 use Rattle.laws.proofs.Codec.{encoded-length, record-length}
-use Rattle.laws.proofs.Inversions.{by-test, both-true}
+use Rattle.laws.proofs.Inversions.{by-test}
 use Rattle.gate.specs.Gate.{Whole}
-use Rattle.visit.specs.Visit.{Sized}
 use Rattle.visit.proofs.Laws.{slot-fits}
-use Rattle.reading.proofs.Opening.{whole-sized}
-use Rattle.walk.specs.declared.Walked.{Walked}
-use Rattle.walk.specs.declared.Walked.the-variants.{Fault, Fine}
 use Rattle.sites.specs.Spelt.{blobAt}
-use Rattle.sites.specs.Known.{Known, Surveyed}
-use Rattle.sites.proofs.Knowing.{surveyed-fault, surveyed-known, known-changing}
+use Rattle.sites.specs.Known.{Known}
+use Rattle.sites.proofs.Knowing.{known-changing}
 use Rattle.worn.specs.Worn.{wornAmong}
 use Rattle.worn.proofs.Laws.{worn-refused, worn-passed}
 use Rattle.change.specs.Turns.{over, Turning}
 use Rattle.change.proofs.Laws.{block-left, record-left, turning-on}
 use Rattle.stretch.specs.Plan.{planOf, stretched, leafCell, putBy, writePlan, Place, Writable}
 use Rattle.rewriting.specs.Unworn.{Unworn}
-use Rattle.writing.specs.Room.{Room, Leaves, barredBy, writeNoted}
+use Rattle.surveying.specs.declared.Reached.{Reached}
+use Rattle.surveying.specs.declared.Reached.the-variants as reached
+use Rattle.surveying.specs.Reached.{front, Behind, Reaches}
+use Rattle.surveying.proofs.Laws.{refused-so, reached-blob, reached-opened}
+use Rattle.writing.specs.Noted.{Leaves, barredBy, writeNoted}
 use Rattle.rewriting.proofs.Facts.{leaves-known, all-same}
 
 -- the loop: what a slot becomes is planned from pool and records as they were
@@ -145,64 +145,51 @@ module _ (e : Edition) (n : ℕ) (P R hs fs : List ℕ) (bytes offset : ℕ) (d 
         let t = eq-eqb number 0 z in
         record { answer = rw (← en, t); pool = ep ∙ rw (← en, t); records = er ∙ rw (← en, t) }
 
--- refusal 3
-pub write-unrooted : (e : Edition) (n : ℕ) (P R : List ℕ) (r offset : ℕ) (d : List ℕ) (t : Bool) → t ≡ both (ltb r n) (eqb (state R r) 2) → not t ≡ true
-    → (q : Refusal) → q ≡ nowhere 3 → Ends e changeAnswer (writeIn e n P R r offset d) P R (changed.Refused q) P R
-unfolding writeIn changing rooted refuseIf changeAnswer after
-write-unrooted e n P R r offset d t et p q eq = record { answer = rw eq (simp (← et, p)); pool = simp (← et, p); records = simp (← et, p) }
+-- a known blob of so many bytes: the call is what is noted of it
+module _ (e : Edition) (p : Proper e) (n : ℕ) (P R : List ℕ) (r len k : ℕ) (row hs fs : List ℕ) (g : Known e n P R r len k row hs fs)
+    (whole : length P ≡ e .size * n) (offset : ℕ) (d : List ℕ) where
+  on-blob : writeIn e n P R r offset d ≡ writeOn e n P R offset d (blobAt e P r)
+  unfolding writeIn
+  on-blob = known-changing e n P R r len k row hs fs g (writeOn e n P R offset d)
 
--- behind it the record is a root's
-module _ (R : List ℕ) (n r : ℕ) (t : Bool) (et : t ≡ both (ltb r n) (eqb (state R r) 2)) (p : not t ≡ false) where
-  pub rooted-within : r < n
-  rooted-within = ltb-true r n (both-true _ _ (sym et ∙ not-false t p) .0)
+  noted : writeIn e n P R r offset d ≡ writeNoted e n P R hs fs len offset d
+  unfolding writeOn refusePast refuseIf writeNoted barredBy pick
+  noted =
+      by-test (wornAmong R hs n)
+      (λ t. rw t (on-blob ∙ worn-refused e n P R r len k row hs fs g t _))
+      (λ t.
+      by-test (ltb len (offset + length d))
+      (λ u.
+      let past : ltb (lengthOf (blobAt e P r)) (offset + length d) ≡ true = rw (← g .bytes) u in
+      rw (t, u) (on-blob ∙ worn-passed e n P R r len k row hs fs g t _ ∙ rw past))
+      (λ u.
+      let inside : ltb (lengthOf (blobAt e P r)) (offset + length d) ≡ false = rw (← g .bytes) u in
+      rw (t, u) (on-blob ∙ worn-passed e n P R r len k row hs fs g t _ ∙ rw inside
+      (ap (λ (cs : List Change). done tt cs)
+      (all-same e p n P R r len k row hs fs g whole offset d (ltb-false (lengthOf (blobAt e P r)) (offset + length d) inside))))))
 
-  pub rooted-state : state R r ≡ 2
-  rooted-state = eqb-true (state R r) 2 (both-true (ltb r n) _ (sym et ∙ not-false t p) .1)
+-- what is reached decides
+module _ (e : Edition) (P R : List ℕ) (r : ℕ) (y : Reached) (row hs fs : List ℕ) (h : Reaches e P R r y row hs fs) where
+  pub write-refused : (q : Refusal) → y ≡ reached.Refused q → (offset : ℕ) (d : List ℕ)
+      → Ends e changeAnswer (writeCall e P R r offset d) P R (changed.Refused q) P R
+  unfolding writeCall writeIn
+  write-refused q eq offset d = refused-so e P R r y row hs fs h q eq (writeOn e (slotsIn e P) P R offset d)
 
--- what the survey is lent
-pub write-sized : (e : Edition) (n : ℕ) (P R seen row hs fs : List ℕ) → Room e n P R seen row hs fs → Sized e n P R seen
-write-sized e n P R seen row hs fs g = whole-sized e n P R seen (g .whole) (g .unseen)
+  module _ (n len k : ℕ) (ey : y ≡ reached.Blob n len k) where
+    here : Behind e P R r n len k row hs fs
+    here = reached-blob e P R r y row hs fs h n len k ey
 
--- the survey found the blob: its leaves may be written
-pub write-unworn : (e : Edition) (n : ℕ) (P R : List ℕ) (r : ℕ) (w : Walked) (row hs fs : List ℕ) → Surveyed e n P R r w row hs fs → (len k : ℕ) → w ≡ Fine len k
-    → Proper e → Whole e n P R → Unworn e n P R hs fs
-write-unworn e n P R r w row hs fs sv len k ek p whole =
-    leaves-known e p n P R r len k row hs fs (surveyed-known e n P R r w row hs fs sv len k ek) (whole .pool)
+    -- the blob's leaves may be written
+    pub write-unworn : Proper e → Unworn e n P R (front n hs) (front n fs)
+    write-unworn p = leaves-known e p n P R r len k (front n row) (front n hs) (front n fs) (here .known) (here .whole .pool)
 
--- the survey's answer decides
-module _ (e : Edition) (n : ℕ) (P R : List ℕ) (r : ℕ) (w : Walked) (row hs fs : List ℕ) (sv : Surveyed e n P R r w row hs fs) (offset : ℕ) (d : List ℕ) where
-  pub write-fault : (f : Refusal) → w ≡ Fault f → r < n → state R r ≡ 2 → Ends e changeAnswer (writeIn e n P R r offset d) P R (changed.Refused f) P R
-  unfolding writeIn changeAnswer after
-  write-fault f ef lr sr =
-      let u = surveyed-fault e n P R r w row hs fs sv f ef lr sr (writeOn e n P R offset d) in
-      record { answer = rw u; pool = rw u; records = rw u }
-
-  module _ (len k : ℕ) (ek : w ≡ Fine len k) where
-    known : Known e n P R r len k row hs fs
-    known = surveyed-known e n P R r w row hs fs sv len k ek
-
-    -- the call is what it does on that blob
-    on-blob : writeIn e n P R r offset d ≡ writeOn e n P R offset d (blobAt e P r)
-    unfolding writeIn
-    on-blob = known-changing e n P R r len k row hs fs known (writeOn e n P R offset d)
-
-    -- which is what is noted of it
-    noted : Proper e → Whole e n P R → writeIn e n P R r offset d ≡ writeNoted e n P R hs fs len offset d
-    unfolding writeOn refusePast refuseIf writeNoted barredBy pick
-    noted p whole =
-        by-test (wornAmong R hs n)
-        (λ t. rw t (on-blob ∙ worn-refused e n P R r len k row hs fs known t _))
-        (λ t.
-        by-test (ltb len (offset + length d))
-        (λ u.
-        let past : ltb (lengthOf (blobAt e P r)) (offset + length d) ≡ true = rw (← known .bytes) u in
-        rw (t, u) (on-blob ∙ worn-passed e n P R r len k row hs fs known t _ ∙ rw past))
-        (λ u.
-        let inside : ltb (lengthOf (blobAt e P r)) (offset + length d) ≡ false = rw (← known .bytes) u in
-        rw (t, u) (on-blob ∙ worn-passed e n P R r len k row hs fs known t _ ∙ rw inside
-        (ap (λ (cs : List Change). done tt cs)
-        (all-same e p n P R r len k row hs fs known (whole .pool) offset d (ltb-false (lengthOf (blobAt e P r)) (offset + length d) inside))))))
-
-    pub write-found : Proper e → Whole e n P R → (a : Changed) (P′ R′ : List ℕ)
-        → Ends e changeAnswer (writeNoted e n P R hs fs len offset d) P R a P′ R′ → Ends e changeAnswer (writeIn e n P R r offset d) P R a P′ R′
-    write-found p whole a P′ R′ f = rw (noted p whole) f
+    -- what is noted of the blob is the call
+    pub write-done : Proper e → (offset : ℕ) (d : List ℕ) (a : Changed) (P′ R′ : List ℕ)
+        → Ends e changeAnswer (writeNoted e n P R (front n hs) (front n fs) len offset d) P R a P′ R′
+        → Ends e changeAnswer (writeCall e P R r offset d) P R a P′ R′
+    unfolding writeCall
+    write-done p offset d a P′ R′ f =
+        rw (
+          reached-opened e P R r y row hs fs h n len k ey (λ m. writeIn e m P R r offset d),
+          noted e p n P R r len k (front n row) (front n hs) (front n fs) (here .known) (here .whole .pool) offset d,
+        ) f

@@ -1,21 +1,21 @@
-// Write, behind refusals 1 and 2: bytes put inside a blob's present length.
+// Write, for any edition: bytes put inside a blob's present length.
 use meaning::Changed;
 use meaning::Edition;
-use walk::Walked;
+use surveying::Reached;
 ghost use mathlib.Core.Path.{_≡_};
 ghost use Prim.Native.Nat.{_+_, _*_, _≤_, _<_};
 ghost use lib.ListN.{length};
 ghost use Rattle.meaning.specs.Edition.{Proper};
 ghost use Rattle.meaning.specs.Change.{puts, Change};
-ghost use Rattle.meaning.specs.Calls.{writeIn};
+ghost use Rattle.meaning.specs.Calls.{writeCall};
 ghost use Rattle.meaning.specs.Answers.{changeAnswer, Ends};
-ghost use Rattle.meaning.specs.Bytes.{state};
 ghost use Rattle.gate.specs.Gate.{Whole};
 ghost use Rattle.change.specs.Turns.{over};
 ghost use Rattle.stretch.specs.Plan.{planOf, writePlan, Place, Counted};
 ghost use Rattle.writing.specs.Number.{counted, changingFrom, Plannable};
 ghost use Rattle.rewriting.specs.Unworn.{Unworn};
-ghost use Rattle.writing.specs.Room.{Room, Leaves, barredBy, writeNoted};
+ghost use Rattle.surveying.specs.Reached.{Rows};
+ghost use Rattle.writing.specs.Noted.{Leaves, barredBy, writeNoted};
 
 // 1 if a slot changes, else 0.
 fn count_slot(
@@ -130,8 +130,8 @@ fn write_noted(
     Changed::Done
 }
 
-// The pool check, then what is behind it.
-fn write_rooted(
+// Write: refusals 1, 2 and 3 and the pool check, then what is noted of the blob decides.
+pub fn write_call(
     e: Edition,
     pool: &mut [u8],
     records: &mut [u8],
@@ -139,58 +139,29 @@ fn write_rooted(
     row: &mut [u32],
     heights: &mut [u8],
     firsts: &mut [u32],
-    n: usize,
-    root: usize,
-    offset: u64,
-    src: &[u8],
-) -> Changed
-    requires { ⌜ Proper e ⌝ }
-    requires { ⌜ e .size ≡ 16 + e .leaf ⌝ }
-    requires { ⌜ Room e n (now pool) (now records) (now seen) (now row) (now heights) (now firsts) ⌝ }
-    requires { ⌜ (root < n) × (state (now records) root ≡ 2) ⌝ }
-    ensures { λ r. ⌜ Ends e changeAnswer (writeIn e n (now (pool .entry)) (now (records .entry)) root offset (now (src .entry))) (now (pool .entry)) (now (records .entry)) r (now (pool .exit)) (now (records .exit)) ⌝ }
-{
-    match sites::survey(e, pool, records, seen, row, heights, firsts, n, root) {
-        Walked::Fault(r) => Changed::Refused(r),
-        Walked::Fine(bytes, _) => {
-            write_noted(e, pool, records, heights, firsts, src, n, bytes, offset)
-        }
-    }
-}
-
-// Refusal 3, then what is behind it.
-pub fn write_in(
-    e: Edition,
-    pool: &mut [u8],
-    records: &mut [u8],
-    seen: &mut [u8],
-    row: &mut [u32],
-    heights: &mut [u8],
-    firsts: &mut [u32],
-    n: usize,
     root: u64,
     offset: u64,
     src: &[u8],
 ) -> Changed
     requires { ⌜ Proper e ⌝ }
     requires { ⌜ e .size ≡ 16 + e .leaf ⌝ }
-    requires { ⌜ Room e n (now pool) (now records) (now seen) (now row) (now heights) (now firsts) ⌝ }
-    ensures { λ r. ⌜ Ends e changeAnswer (writeIn e n (now (pool .entry)) (now (records .entry)) root offset (now (src .entry))) (now (pool .entry)) (now (records .entry)) r (now (pool .exit)) (now (records .exit)) ⌝ }
+    requires { ⌜ Rows e (now seen) (now row) (now heights) (now firsts) ⌝ }
+    ensures { λ r. ⌜ Ends e changeAnswer (writeCall e (now (pool .entry)) (now (records .entry)) root offset (now (src .entry))) (now (pool .entry)) (now (records .entry)) r (now (pool .exit)) (now (records .exit)) ⌝ }
 {
-    if !gate::is_root(records, n, root) {
-        return Changed::Refused(meaning::refuse_nowhere(3));
+    match surveying::reach(e, pool, records, seen, row, heights, firsts, root) {
+        Reached::Refused(r) => Changed::Refused(r),
+        Reached::Blob(n, bytes, _) => {
+            write_noted(
+                e,
+                pool,
+                records,
+                &heights[0..n],
+                &firsts[0..n],
+                src,
+                n,
+                bytes,
+                offset,
+            )
+        }
     }
-    write_rooted(
-        e,
-        pool,
-        records,
-        seen,
-        row,
-        heights,
-        firsts,
-        n,
-        root as usize,
-        offset,
-        src,
-    )
 }

@@ -1,18 +1,17 @@
 -- The numbers are those of the blob, and what the code below does with them is as the definition says.
-use Rattle.fitting.proofs.Shorter.{root-place}
-use Rattle.fitting.proofs.Longer.{long-more, long-few, long-grows, long-towers, long-root, long-here, long-pool, long-records}
+use Rattle.fitting.proofs.Longer.{long-place, long-within, long-whole, long-more, long-few, long-grows, long-towers, long-root, long-here, long-pool, long-records}
 use borrow.Author.Needs.{needs}
 use Rattle.fitting.proofs.lengthen.Statement.{statement}
 use Rattle.fitting.proofs.lengthen.Tie as tie
 
 tower-at-requires : tie.Need-tower-at-requires
-tower-at-requires c κs = (search needs, (search root-place, (search long-more, search long-few)))
+tower-at-requires c κs = (search needs, (search long-place, (search long-more, search long-few)))
 
-sub-t20 : tie.Need-sub-t20
-sub-t20 c = search long-more
+sub-t19 : tie.Need-sub-t19
+sub-t19 c = search long-more
 
 grow-requires : tie.Need-grow-requires
-grow-requires c κs = (search needs, (search long-grows, (search long-towers, (search long-root, (search needs, (search long-here, (search needs, search needs, search needs, search needs)))))))
+grow-requires c κs = (search needs, (search long-grows, (search long-towers, (search long-root, (search long-whole, (search long-here, (search needs, search needs, search needs, search long-within)))))))
 
 same-length : tie.Need-same-length
 same-length c = search needs
@@ -35,10 +34,9 @@ returns c =
     let tower = grow .before .before .before .before .before .before in
     let start = tower .before .before .before .before .before .before .before .before .before .before in
     let p = start .pre .0 in
-    let roomy = start .pre .1 .0 in
-    let long = start .pre .1 .1 .1 in (
-      long-pool _ p _ _ _ _ _ _ _ _ _ _ _ roomy long _ (tower .tower-at .ensures) _ (grow .grow .ensures .0),
-      long-records _ p _ _ _ _ _ _ _ _ _ _ _ roomy long _ (tower .tower-at .ensures) _ (grow .grow .ensures .1),
+    let longer = start .pre .1 .0 in (
+      long-pool _ p _ _ _ _ _ _ _ _ _ _ longer _ (tower .tower-at .ensures) _ (grow .grow .ensures .0),
+      long-records _ p _ _ _ _ _ _ _ _ _ _ longer _ (tower .tower-at .ensures) _ (grow .grow .ensures .1),
     )
 
 pub lengthen-spec : {M : Type 1} → statement M
@@ -46,7 +44,7 @@ lengthen-spec =
     tie.close
     (tie.spec
     tower-at-requires
-    sub-t20
+    sub-t19
     grow-requires
     same-length
     same-length-2

@@ -1,5 +1,5 @@
 -- The blob is cut as the code below does it, which is as the definition says.
-use Rattle.fitting.proofs.Shorter.{root-place, short-few, short-start, height-read, short-pool, short-records}
+use Rattle.fitting.proofs.Shorter.{short-place, short-few, short-start, height-read, short-pool, short-records}
 use borrow.Author.Needs.{needs}
 use Rattle.fitting.proofs.shorten.Statement.{statement}
 use Rattle.fitting.proofs.shorten.Tie as tie
@@ -8,7 +8,7 @@ height-for-requires : tie.Need-height-for-requires
 height-for-requires c κs = (search needs, search needs, search short-few)
 
 block-of-requires : tie.Need-block-of-requires
-block-of-requires c κs = search root-place
+block-of-requires c κs = search short-place
 
 height-of-requires : tie.Need-height-of-requires
 height-of-requires c κs = search needs

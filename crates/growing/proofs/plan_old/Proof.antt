@@ -1,6 +1,6 @@
--- The block is drawn by where it stands, and compared with the one that is there.
+-- A leaf that has all its bytes stays. Any other block is drawn by where it stands, and compared with the one that is there.
 use native.Mathlib.Omega.{arith}
-use Rattle.growing.proofs.Plan.{old-most, old-share, redrawn-old}
+use Rattle.growing.proofs.Plan.{old-most, old-share, redrawn-old, redrawn-settled}
 use borrow.Author.Needs.{needs}
 use Rattle.growing.proofs.plan_old.Statement.{statement}
 use Rattle.growing.proofs.plan_old.Tie as tie
@@ -26,13 +26,30 @@ cast-first c = omega (arith, c .shared-slice-known6 .given (c .before .before .b
 block-of-requires : tie.Need-block-of-requires
 block-of-requires c κs = search needs
 
+is-settled-requires : tie.Need-is-settled-requires
+is-settled-requires c κs =
+    let first = c .before .shared-slice-known6 .given (c .before .before .before .before .before .before .before .before .args .i) in
+    (search needs, (omega (arith, c .block-of .ensures .1, c .before .before .before .before .before .before .before .before .pre .0 .fits), omega (arith, first)))
+
+returns : tie.Need-returns
+returns c = search redrawn-settled
+
 draw-grown-requires : tie.Need-draw-grown-requires
 draw-grown-requires c κs =
-    let at = c .before .before .before .before .before .before .before .before .before .args .i in
-    let height = c .before .before .before .shared-slice-known5 .given at in
-    let first = c .before .before .shared-slice-known6 .given at in (
-      search needs,
-      (search needs, ((search needs, omega (arith, height), search needs, omega (arith, first)), (search needs, search old-most, search old-share))),
+    let b = c .before .before .before in
+    let s = b .before .before .before .before .before .before .before .before in
+    let height = b .before .before .shared-slice-known5 .given (s .args .i) in
+    let first = b .before .shared-slice-known6 .given (s .args .i) in
+    let spot = s .pre .1 .1 .0 in
+    let some = s .pre .1 .1 .1 .1 in (
+      s .pre .0,
+      (
+        s .pre .1 .0,
+        (
+          (s .pre .1 .1 .1 .0, omega (arith, height), spot .low, omega (arith, first)),
+          (b .block-of .ensures .1, old-most _ _ _ _ _ _ spot some _ (b .block-of .ensures .0), old-share _ _ _ _ _ _ spot some _ (b .block-of .ensures .0)),
+        ),
+      ),
     )
 
 renewed-requires : tie.Need-renewed-requires
@@ -41,8 +58,8 @@ renewed-requires c κs = search needs
 same-length : tie.Need-same-length
 same-length c = search needs
 
-returns : tie.Need-returns
-returns c = search redrawn-old
+returns-2 : tie.Need-returns-2
+returns-2 c = search redrawn-old
 
 pub plan-old-spec : {M : Type 1} → statement M
 plan-old-spec =
@@ -55,7 +72,9 @@ plan-old-spec =
     shared-slice-read-first
     cast-first
     block-of-requires
+    is-settled-requires
+    returns
     draw-grown-requires
     renewed-requires
     same-length
-    returns)
+    returns-2)

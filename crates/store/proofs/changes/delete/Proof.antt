@@ -1,113 +1,65 @@
--- Refusals 1 and 2 with nothing changed, or the delete behind them.
-use Rattle.store.proofs.Opening.{one-here, few-here}
-use Rattle.store.proofs.Changing.{delete-barred, delete-behind, room-here}
+-- Delete at edition one, with rows and a scratch block of its own.
+use Rattle.store.proofs.Opening.{one-here, scratch-here}
+use Rattle.store.proofs.Changing.{rows-here, delete-one}
 use borrow.Author.Needs.{needs}
 use Rattle.store.proofs.changes.delete.Statement.{statement}
 use Rattle.store.proofs.changes.delete.Tie as tie
+use Rattle.store.proofs.changes.delete.Reads as reads
+use Rattle.store.proofs.changes.delete.Lts as lts
+use Rattle.clearing.proofs.delete_call.Reads as delete-call-reads
+use Rattle.meaning.proofs.edition_one.Reads as edition-one-reads
 
+-- src/changes.rt:32:9
 edition-one-requires : tie.Need-edition-one-requires
 edition-one-requires c κs = search needs
 
-open-requires : tie.Need-open-requires
-open-requires c κs = search one-here
+-- src/changes.rt:42:9
+slice-aggregate-delete-call : tie.Need-slice-aggregate-delete-call
+slice-aggregate-delete-call c = search needs
 
-enum-known-r : tie.Need-enum-known-r
-enum-known-r c = search needs
+-- src/changes.rt:43:9
+slice-aggregate-delete-call-2 : tie.Need-slice-aggregate-delete-call-2
+slice-aggregate-delete-call-2 c = search needs
 
-enum-known-n : tie.Need-enum-known-n
-enum-known-n c = search needs
+-- src/changes.rt:44:9
+slice-aggregate-delete-call-3 : tie.Need-slice-aggregate-delete-call-3
+slice-aggregate-delete-call-3 c = search needs
 
-sub-delete-in : tie.Need-sub-delete-in
-sub-delete-in c = search needs
+-- src/changes.rt:45:9
+slice-aggregate-delete-call-4 : tie.Need-slice-aggregate-delete-call-4
+slice-aggregate-delete-call-4 c = search needs
 
-part-seen-start : tie.Need-part-seen-start
-part-seen-start c = search needs
+-- src/changes.rt:46:9
+slice-aggregate-delete-call-5 : tie.Need-slice-aggregate-delete-call-5
+slice-aggregate-delete-call-5 c = search needs
 
-part-seen-end : tie.Need-part-seen-end
-part-seen-end c = search few-here
+-- src/changes.rt:38:5
+delete-call-requires : tie.Need-delete-call-requires
+delete-call-requires c κs = (search one-here, (search rows-here, search scratch-here))
 
-sub-delete-in-2 : tie.Need-sub-delete-in-2
-sub-delete-in-2 c = search needs
-
-part-row-start : tie.Need-part-row-start
-part-row-start c = search needs
-
-part-row-end : tie.Need-part-row-end
-part-row-end c = search few-here
-
-sub-delete-in-3 : tie.Need-sub-delete-in-3
-sub-delete-in-3 c = search needs
-
-part-heights-start : tie.Need-part-heights-start
-part-heights-start c = search needs
-
-part-heights-end : tie.Need-part-heights-end
-part-heights-end c = search few-here
-
-sub-delete-in-4 : tie.Need-sub-delete-in-4
-sub-delete-in-4 c = search needs
-
-part-firsts-start : tie.Need-part-firsts-start
-part-firsts-start c = search needs
-
-part-firsts-end : tie.Need-part-firsts-end
-part-firsts-end c = search few-here
-
-slice-aggregate-delete-in : tie.Need-slice-aggregate-delete-in
-slice-aggregate-delete-in c = search needs
-
-delete-in-requires : tie.Need-delete-in-requires
-delete-in-requires c κs =
-    let o = c .before .before .before .before .before .before .before .before .before .before in
-    let d = o .before .before .before in
-    let t = c .before .before .before .before .before .before .before in (
-      search one-here,
-      room-here _ (d .edition-one .ensures) _ _ _ (o .open .ensures) (t .before .n .given .0 .0) (t .before .n .given .1) _ _ _ (search needs) (search needs) (search needs),
-    )
-
+-- src/changes.rt:29:1
 same-length : tie.Need-same-length
 same-length c = search needs
 
+-- src/changes.rt:29:1
 same-length-2 : tie.Need-same-length-2
 same-length-2 c = search needs
 
+-- src/changes.rt:29:1
 returns : tie.Need-returns
-returns c = search delete-barred
-
-same-length-3 : tie.Need-same-length-3
-same-length-3 c = search needs
-
-same-length-4 : tie.Need-same-length-4
-same-length-4 c = search needs
-
-returns-2 : tie.Need-returns-2
-returns-2 c = search delete-behind
+returns c = search delete-one
 
 pub delete-spec : {M : Type 1} → statement M
 delete-spec =
     tie.close
     (tie.spec
     edition-one-requires
-    open-requires
-    enum-known-r
-    enum-known-n
-    sub-delete-in
-    part-seen-start
-    part-seen-end
-    sub-delete-in-2
-    part-row-start
-    part-row-end
-    sub-delete-in-3
-    part-heights-start
-    part-heights-end
-    sub-delete-in-4
-    part-firsts-start
-    part-firsts-end
-    slice-aggregate-delete-in
-    delete-in-requires
+    slice-aggregate-delete-call
+    slice-aggregate-delete-call-2
+    slice-aggregate-delete-call-3
+    slice-aggregate-delete-call-4
+    slice-aggregate-delete-call-5
+    delete-call-requires
     same-length
     same-length-2
-    returns
-    same-length-3
-    same-length-4
-    returns-2)
+    returns)

@@ -7,36 +7,26 @@ use Rattle.vectors_read.proofs.script.play.Statement.{statement}
 use Rattle.vectors_read.proofs.script.play.Tie as tie
 
 abbrev Inv-loop : tie.InvT-loop
-Inv-loop text pool₀ records₀ at₀ label₀ pool-end₀ records-end₀ turns₀ pool records at label pool-end records-end turns =
+Inv-loop text pool₀ records₀ place₀ turns₀ pool records place turns =
     (turns ≤ 65536) × ((length pool ≡ length pool₀) × (length records ≡ length records₀))
 
 abbrev μ-loop : tie.MeasureT-loop
-μ-loop text pool₀ records₀ at₀ label₀ pool-end₀ records-end₀ turns₀ pool records at label pool-end records-end turns =
-    65536 - turns
+μ-loop text pool₀ records₀ place₀ turns₀ pool records place turns = 65536 - turns
+
+start-requires : tie.Need-start-requires Inv-loop μ-loop
+start-requires c κs = search needs
 
 loop-holds : tie.Need-loop-holds Inv-loop μ-loop
 loop-holds c = search needs
 
-byte-at-requires : tie.Need-byte-at-requires Inv-loop μ-loop
-byte-at-requires c κs = search needs
-
-five-numbers-requires : tie.Need-five-numbers-requires Inv-loop μ-loop
-five-numbers-requires c κs = search needs
-
-label-after-requires : tie.Need-label-after-requires Inv-loop μ-loop
-label-after-requires c κs = search needs
-
-length-after-requires : tie.Need-length-after-requires Inv-loop μ-loop
-length-after-requires c κs = search needs
-
-length-after-requires-2 : tie.Need-length-after-requires-2 Inv-loop μ-loop
-length-after-requires-2 c κs = search needs
-
-carry-out-requires : tie.Need-carry-out-requires Inv-loop μ-loop
-carry-out-requires c κs = search needs
+command-at-requires : tie.Need-command-at-requires Inv-loop μ-loop
+command-at-requires c κs = search needs
 
 after-requires : tie.Need-after-requires Inv-loop μ-loop
 after-requires c κs = search needs
+
+carry-out-requires : tie.Need-carry-out-requires Inv-loop μ-loop
+carry-out-requires c κs = search needs
 
 add-turns : tie.Need-add-turns Inv-loop μ-loop
 add-turns c = search needs
@@ -62,14 +52,11 @@ play-spec =
     (tie.spec
     Inv-loop
     μ-loop
+    start-requires
     loop-holds
-    byte-at-requires
-    five-numbers-requires
-    label-after-requires
-    length-after-requires
-    length-after-requires-2
-    carry-out-requires
+    command-at-requires
     after-requires
+    carry-out-requires
     add-turns
     loop-less
     loop-again

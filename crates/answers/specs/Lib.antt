@@ -1,0 +1,2 @@
+-- The eight numbers of an answer.
+pub mod Numbers

@@ -1,2 +1,0 @@
--- What the library for C answers: eight numbers.
-pub mod Numbers

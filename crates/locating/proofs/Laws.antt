@@ -1,0 +1,101 @@
+-- A leaf's place: an equation for each way out.
+use mathlib.Core.Path.{_≡_, ap, _∙_, sym}
+use mathlib.Core.Bool.{true, false}
+use mathlib.Core.List.{List}
+use Prim.Native.Nat.{ℕ, _+_, _*_, _≤_, _<_}
+use native.Mathlib.Omega.{arith}
+use borrow.Author.Tests.{le-leb, lt-leb}
+use lib.Dec.{leb}
+use lib.ListN.{length, getD, take}
+use lib.Seq.{length-take-le, getD-take}
+use Rattle.meaning.specs.Edition.{Proper}
+use Rattle.meaning.specs.Bytes.{block, countOf}
+use Rattle.meaning.specs.Refusals.{nowhere}
+use Rattle.meaning.specs.Calls.{refuseIf, slotsIn, showOn, showIn, showCall}
+use Rattle.meaning.specs.Answers.{leafAnswer}
+use Rattle.meaning.specs.declared.Edition.{Edition}
+use Rattle.meaning.specs.declared.Refusal.{Refusal}
+use Rattle.meaning.specs.declared.Leaf.{Leaf}
+use Rattle.meaning.specs.declared.Leaf.the-variants as leaf
+use Rattle.gate.specs.declared.Opened.{Opened}
+use Rattle.gate.specs.declared.Opened.the-variants.{Slots, Refused}
+use Rattle.gate.specs.Gate.{gate, Whole}
+use Rattle.gate.proofs.Laws.{gate-barred, gate-behind}
+use Rattle.visit.proofs.Laws.{slot-fits}
+use Rattle.walk.specs.declared.Walked.{Walked}
+use Rattle.walk.specs.declared.Walked.the-variants.{Fault, Fine}
+use Rattle.walk.specs.Noting.{met}
+use Rattle.reading.specs.Rooted.{openNoted}
+use Rattle.reading.proofs.Opening.{Blobbed, open-fault, open-below, open-found, open-reads}
+use Rattle.locating.specs.Placing.{Below, Lies, showSpelt}
+use Rattle.locating.proofs.Shown.{row-below, show-spelt}
+
+-- refusals 1 and 2, or what is answered behind them
+module _ (e : Edition) (P R : List ℕ) (x : Opened) (ex : x ≡ gate e P R) (r i : ℕ) where
+  pub leaf-barred : (q : Refusal) → x ≡ Refused q → leaf.Refused q ≡ leafAnswer e (showCall e P R r i)
+  unfolding leafAnswer showCall
+  leaf-barred q eq = sym (ap (leafAnswer e) (gate-barred e P R x ex q eq (showIn e (slotsIn e P) P R r i)))
+
+  pub leaf-behind : (n : ℕ) → x ≡ Slots n → (a : Leaf) → a ≡ leafAnswer e (showIn e n P R r i) → a ≡ leafAnswer e (showCall e P R r i)
+  unfolding showCall
+  leaf-behind n en a ea = ea ∙ sym (ap (leafAnswer e) (gate-behind e P R x ex n en (λ m. showIn e m P R r i)))
+
+-- refusal 3 and the blob check: the refusal, or the leaf in the row
+module _ (e : Edition) (n : ℕ) (P R : List ℕ) (r : ℕ) (o : List ℕ) (w : Walked) (sx ox : List ℕ) (ew : met w sx ox ≡ openNoted e n P R r o) where
+  module _ (f : Refusal) (ef : w ≡ Fault f) where
+    pub leaf-refused : (i : ℕ) → leaf.Refused f ≡ leafAnswer e (showIn e n P R r i)
+    unfolding leafAnswer showIn
+    leaf-refused i = rw (open-fault e n P R r o w sx ox ew f ef (showOn e n P R i))
+
+  module _ (b k : ℕ) (eb : w ≡ Fine b k) (q : Proper e) (z : Whole e n P R) (lo : length o ≡ n) where
+    abbrev blob : Blobbed e n P R r b k o sx ox
+    blob = open-found e n P R r o w sx ox ew b k eb
+
+    below : r < n
+    below = open-below e n P R r o w sx ox ew b k eb
+
+    pub found-below : Below e n P (take k ox)
+    found-below = row-below e q n P R z r b k o sx ox blob below lo
+
+    pub leaf-found : (i : ℕ) (x : Leaf) → x ≡ leafAnswer e (showSpelt e P i (take k ox)) → x ≡ leafAnswer e (showIn e n P R r i)
+    unfolding showIn
+    leaf-found i x h =
+        let a = open-reads e n P R r o w sx ox ew b k eb (showOn e n P R i) in
+        h ∙ sym (ap (leafAnswer e) (a ∙ show-spelt e q n P R z r b k o sx ox blob below lo i))
+
+-- a leaf in a row
+module _ (e : Edition) (n : ℕ) (P row : List ℕ) (k i : ℕ) (lk : k ≤ length row) where
+  taken : length (take k row) ≡ k
+  taken = length-take-le k row lk
+
+  pub leaf-past : k ≤ i → (q : Refusal) → q ≡ nowhere 10 → leaf.Refused q ≡ leafAnswer e (showSpelt e P i (take k row))
+  unfolding leafAnswer showSpelt refuseIf
+  leaf-past l q eq = rw eq (simp (taken, le-leb k i l))
+
+  module _ (l : i < k) (s : ℕ) (es : s ≡ getD row i 0) where
+    slot-is : getD (take k row) i 0 ≡ s
+    slot-is = getD-take k row i 0 l ∙ sym es
+
+    pub leaf-below : Below e n P (take k row) → s < n
+    leaf-below h = rw (← slot-is) (h .slot i (omega (arith, taken)))
+
+    pub leaf-in-pool : Below e n P (take k row) → length P ≡ e .size * n → e .size * s + e .size ≤ length P
+    leaf-in-pool h z = slot-fits (e .size) n s P z (leaf-below h)
+
+    pub leaf-shown : (blk : List ℕ) → blk ≡ block e P s → (c : ℕ) → c ≡ countOf blk → (a : ℕ) → a ≡ e .size * s + 16
+        → leaf.At a c ≡ leafAnswer e (showSpelt e P i (take k row))
+    unfolding leafAnswer showSpelt refuseIf
+    leaf-shown blk eb c ec a ea = rw (ea, ec, eb) (simp (taken, lt-leb k i l, slot-is))
+
+    pub leaf-lies : Proper e → Below e n P (take k row) → length P ≡ e .size * n → (blk : List ℕ) → blk ≡ block e P s → (c : ℕ) → c ≡ countOf blk
+        → (a : ℕ) → a ≡ e .size * s + 16 → Lies (leaf.At a c) (length P)
+    unfolding Lies
+    leaf-lies p h z blk eb c ec a ea =
+        let u : countOf (block e P s) ≤ e .leaf = rw slot-is at (h .count i (omega (arith, taken))) in
+        let v : c ≡ countOf (block e P s) = ec ∙ ap countOf eb in
+        omega (arith, p .fits, leaf-in-pool h z)
+
+-- a refusal shows nothing
+pub refused-lies : (q : Refusal) (bytes : ℕ) → Lies (leaf.Refused q) bytes
+unfolding Lies
+refused-lies q bytes = tt
