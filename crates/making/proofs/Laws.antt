@@ -36,6 +36,7 @@ use Rattle.pool.specs.Naming.{noteNamed, kept, poolNoted}
 use Rattle.usable.specs.declared.Free.{Free}
 use Rattle.usable.specs.declared.Free.the-variants.{At, Nowhere}
 use Rattle.usable.specs.Usable.{usableFrom, lowestOf}
+use Rattle.usable.proofs.Laws.{usable-all}
 use Rattle.change.specs.Places.{Places}
 use Rattle.change.specs.Turns.{over}
 use Rattle.change.proofs.Laws.{changes-over}
@@ -93,15 +94,11 @@ unfolding lowestOf
 at-none [] e = refl
 at-none (x ∷ l) e = absurd (let z : _≡_ {A = ℕ} 0 1 = cc in omega arith)
 
-usable-is : (e : Edition) (n : ℕ) (P R : List ℕ) → usable e n P R ≡ usableFrom R 0 n
-unfolding usable usableFrom
-usable-is e n P R = refl
-
 module _ (e : Edition) (p : Proper e) (n : ℕ) (P R : List ℕ) (w : Whole e n P R) (x : Free) (ex : x ≡ lowestOf (usableFrom R 0 n)) where
   pub create-full : x ≡ Nowhere → (q : Refusal) → q ≡ nowhere 11 → Ends e createAnswer (createOn e n P R []) P R (created.Refused q) P R
   unfolding createOn refuseFull refuseIf createAnswer after
   create-full z q eq =
-      let u : usable e n P R ≡ [] = usable-is e n P R ∙ at-none (usableFrom R 0 n) (sym z ∙ ex) in
+      let u : usable e n P R ≡ [] = sym (usable-all e n P R) ∙ at-none (usableFrom R 0 n) (sym z ∙ ex) in
       record { answer = rw (eq, u); pool = rw u; records = rw u }
 
   module _ (s : ℕ) (es : x ≡ At s) where
@@ -145,7 +142,7 @@ module _ (e : Edition) (p : Proper e) (n : ℕ) (P R : List ℕ) (w : Whole e n 
       outcome : createOn e n P R [] ≡ done s (renewed e R 2 s (record { height = 0; row = [] }) ∷ [])
       unfolding createOn refuseFull refuseIf lowest
       outcome =
-          let u : usable e n P R ≡ s ∷ slot .0 = usable-is e n P R ∙ slot .1 in
+          let u : usable e n P R ≡ s ∷ slot .0 = sym (usable-all e n P R) ∙ slot .1 in
           let f : ltb (length (usable e n P R)) 1 ≡ false = le-ltb (length (usable e n P R)) 1 (omega (arith, ap length u)) in
           let l : getD (usable e n P R) 0 (2 ^ 32) ≡ s = rw u in
           rw (f, l, change)

@@ -11,7 +11,7 @@ pub fn wipe(pool: &mut [u8], records: &mut [u8]) -> Finished
     ensures { λ r. ⌜ Wipes one (now (pool .entry)) (now (records .entry)) r (now (pool .exit)) (now (records .exit)) ⌝ }
 {
     let e = meaning::edition_one();
-    wiping::wipe_in(e, pool, records)
+    wiping::wipe_call(e, pool, records)
 }
 
 // A new empty blob, in the lowest usable free slot.

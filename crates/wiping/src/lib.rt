@@ -1,4 +1,4 @@
-// Wipe: pool all zeros; each record free, version 0.
+// Wipe, for any edition: pool all zeros; each record free, version 0.
 use meaning::Edition;
 use meaning::Finished;
 ghost use mathlib.Core.Path.{_≡_};
@@ -22,7 +22,7 @@ fn free_all(records: &mut [u8], n: usize)
 }
 
 // Refusal 1 only; then everything is wiped.
-pub fn wipe_in(e: Edition, pool: &mut [u8], records: &mut [u8]) -> Finished
+pub fn wipe_call(e: Edition, pool: &mut [u8], records: &mut [u8]) -> Finished
     requires { ⌜ Proper e ⌝ }
     ensures { λ r. ⌜ Wipes e (now (pool .entry)) (now (records .entry)) r (now (pool .exit)) (now (records .exit)) ⌝ }
 {

@@ -8,8 +8,8 @@ use Rattle.store.proofs.changes.wipe.Tie as tie
 edition-one-requires : tie.Need-edition-one-requires
 edition-one-requires c κs = search needs
 
-wipe-in-requires : tie.Need-wipe-in-requires
-wipe-in-requires c κs = search one-here
+wipe-call-requires : tie.Need-wipe-call-requires
+wipe-call-requires c κs = search one-here
 
 same-length : tie.Need-same-length
 same-length c = search needs
@@ -22,4 +22,4 @@ returns c = search wipe-one
 
 pub wipe-spec : {M : Type 1} → statement M
 wipe-spec =
-    tie.close (tie.spec edition-one-requires wipe-in-requires same-length same-length-2 returns)
+    tie.close (tie.spec edition-one-requires wipe-call-requires same-length same-length-2 returns)

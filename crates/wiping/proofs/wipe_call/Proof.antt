@@ -1,8 +1,8 @@
 -- The lengths decide; then everything is wiped.
 use Rattle.wiping.proofs.Laws.{wipe-lengths, wipe-records, wipe-done}
 use borrow.Author.Needs.{needs}
-use Rattle.wiping.proofs.wipe_in.Statement.{statement}
-use Rattle.wiping.proofs.wipe_in.Tie as tie
+use Rattle.wiping.proofs.wipe_call.Statement.{statement}
+use Rattle.wiping.proofs.wipe_call.Tie as tie
 
 is-sized-requires : tie.Need-is-sized-requires
 is-sized-requires c κs = search needs
@@ -37,8 +37,8 @@ same-length-4 c = search needs
 returns-2 : tie.Need-returns-2
 returns-2 c = search wipe-done
 
-pub wipe-in-spec : {M : Type 1} → statement M
-wipe-in-spec =
+pub wipe-call-spec : {M : Type 1} → statement M
+wipe-call-spec =
     tie.close
     (tie.spec
     is-sized-requires
