@@ -5,12 +5,20 @@ use std::fs::{read_to_string, File};
 use std::path::Path;
 use std::process::Command;
 
+/// The player, run by the emulator that cargo is told to run programs with, if any.
+fn player() -> Command {
+    let runner = std::env::var("CARGO_TARGET_X86_64_UNKNOWN_LINUX_GNU_RUNNER").unwrap_or_default();
+    let mut words = runner.split_whitespace().chain([env!("CARGO_BIN_EXE_vectors")]);
+    let mut player = Command::new(words.next().expect("a program"));
+    player.args(words);
+    player
+}
+
 fn plays_as_published(program: &str) {
     let folder = Path::new(env!("CARGO_MANIFEST_DIR")).join("../../crates").join(program);
     let script = File::open(folder.join("stdin")).expect("a script");
     let wanted = read_to_string(folder.join("stdout")).expect("what is published");
-    let mut player = Command::new(env!("CARGO_BIN_EXE_vectors"));
-    let done = player.stdin(script).output().expect("the player runs");
+    let done = player().stdin(script).output().expect("the player runs");
     assert!(done.status.success());
     let printed = String::from_utf8(done.stdout).expect("plain text");
     for (number, (line, want)) in printed.lines().zip(wanted.lines()).enumerate() {
