@@ -1,3 +1,2 @@
-// One block in a lent part: its check and its building.
-pub mod build;
+// One block in a lent part: its height, its count and its check.
 pub mod check;

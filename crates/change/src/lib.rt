@@ -46,7 +46,7 @@ pub fn put_cell(
     ensures { λ _. ⌜ now (pool .exit) ≡ put (e .size) slot (blockBytes e height count slot version (now (payload .entry))) (now (pool .entry)) ⌝ }
     ensures { λ _. ⌜ now (records .exit) ≡ put 12 slot (recordOf state version) (now (records .entry)) ⌝ }
 {
-    block::build::build_block(e, scratch, height, count, slot as u32, version, payload);
+    building::build_block(e, scratch, height, count, slot as u32, version, payload);
     store_slot(e, pool, records, scratch, slot, state, version);
 }
 

@@ -1,8 +1,8 @@
 -- The array's four bytes, the slot's four and the version's eight are the header.
 use Rattle.laws.proofs.Building.{header-made}
 use borrow.Author.Needs.{needs}
-use Rattle.block.proofs.build.header_of.Statement.{statement}
-use Rattle.block.proofs.build.header_of.Tie as tie
+use Rattle.building.proofs.header_of.Statement.{statement}
+use Rattle.building.proofs.header_of.Tie as tie
 
 array-read-h : tie.Need-array-read-h
 array-read-h c = search needs

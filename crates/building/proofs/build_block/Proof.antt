@@ -1,8 +1,8 @@
 -- Header, payload and zeros pasted one after the other are the block.
 use Rattle.laws.proofs.Building.{block-made}
 use borrow.Author.Needs.{needs}
-use Rattle.block.proofs.build.build_block.Statement.{statement}
-use Rattle.block.proofs.build.build_block.Tie as tie
+use Rattle.building.proofs.build_block.Statement.{statement}
+use Rattle.building.proofs.build_block.Tie as tie
 
 header-of-requires : tie.Need-header-of-requires
 header-of-requires c κs = search needs
