@@ -37,11 +37,11 @@ unfolding puts
 puts-append w f [] b l = refl
 puts-append w f (c ∷ a) b l = puts-append w f a b (put w (c .slot) (f c) l)
 
-over-none : (plan : ℕ → List Change) (i n : ℕ) → n ≤ i → over plan i (n - i) ≡ []
+pub over-none : (plan : ℕ → List Change) (i n : ℕ) → n ≤ i → over plan i (n - i) ≡ []
 unfolding over joined range
 over-none plan i n h = let z : n - i ≡ 0 = omega arith in rw z
 
-over-step : (plan : ℕ → List Change) (i n : ℕ) → i < n → over plan i (n - i) ≡ plan i ++ over plan (i + 1) (n - (i + 1))
+pub over-step : (plan : ℕ → List Change) (i n : ℕ) → i < n → over plan i (n - i) ≡ plan i ++ over plan (i + 1) (n - (i + 1))
 unfolding over joined range
 over-step plan i n h = let z : n - i ≡ suc (n - suc i) = omega arith in rw (z, add-one)
 

@@ -1,26 +1,23 @@
 -- Delete: the changes slot by slot are those of the definition, since a slot holds a block of the blob exactly if its height is noted.
-use mathlib.Core.Path.{_≡_, refl, ap, _∙_, sym, subst}
-use mathlib.Core.List.{List, [], _∷_, _++_}
+use mathlib.Core.Path.{_≡_, ap, _∙_, sym}
+use mathlib.Core.List.{List, [], _∷_}
 use mathlib.Core.Logic.{_⊎_, inl, inr}
-use Prim.Native.Nat.{ℕ, zero, suc, _+_, _-_, _*_, _≤_, _<_}
-use native.Mathlib.Omega.{arith}
+use Prim.Native.Nat.{ℕ, _+_, _<_}
 use borrow.Author.Tests.{eq-eqb, ne-eqb, eqb-true, eqb-false}
-use lib.Dec.{eqb, ltb}
+use lib.Dec.{eqb}
 use lib.ListN.{length, getD, replicate, length-replicate}
-use Rattle.meaning.specs.Lists.{pick, both, range}
+use Rattle.meaning.specs.Lists.{pick}
 use Rattle.meaning.specs.Edition.{Proper}
-use Rattle.meaning.specs.Bytes.{recordAt, recordOf, recordedOf, recorded, state}
-use Rattle.meaning.specs.Tree.{Blob, Held, nothing, just, held, cellsOf}
-use Rattle.meaning.specs.Change.{Change, Store, put, puts, freed, changed, changes, changedBy}
+use Rattle.meaning.specs.Bytes.{recordAt, recordOf, recordedOf, recorded}
+use Rattle.meaning.specs.Tree.{Blob, held, cellsOf}
+use Rattle.meaning.specs.Change.{Change, put, puts, freed, changed, changedBy}
 use Rattle.meaning.specs.Calls.{done, slotsIn, become, deleteOn, deleteIn, deleteCall, after}
 use Rattle.meaning.specs.Answers.{changeAnswer, Ends}
 use Rattle.meaning.specs.declared.Edition.{Edition}
 use Rattle.meaning.specs.declared.Refusal.{Refusal}
-use Rattle.meaning.specs.declared.Changed.{Changed}
 use Rattle.meaning.specs.declared.Changed.the-variants as changed
 use Rattle.laws.proofs.Inversions.{by-test}
 use Rattle.laws.proofs.Codec.{record-length}
-use Rattle.growth.specs.Sites.{sitesOf, sited, absent, at}
 use Rattle.growth.proofs.Changes.{held-at, held-absent}
 use Rattle.gate.specs.Gate.{Whole}
 use Rattle.visit.proofs.Laws.{slot-fits}

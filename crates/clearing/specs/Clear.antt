@@ -1,7 +1,6 @@
 -- What delete makes of each slot, by the row of heights.
 use mathlib.Core.List.{List, [], _∷_}
-use mathlib.Core.Bool.{not}
-use Prim.Native.Nat.{ℕ, zero, suc, _+_}
+use Prim.Native.Nat.{ℕ}
 use lib.Dec.{eqb}
 use lib.ListN.{getD}
 use Rattle.meaning.specs.Lists.{pick}
@@ -11,8 +10,3 @@ use Rattle.meaning.specs.declared.Edition.{Edition}
 -- a block of the blob goes; any other slot stays
 unfoldable pub clearPlan : Edition → (R heights : List ℕ) → ℕ → List Change
 clearPlan e R heights s = pick (eqb (getD heights s 0) 0) [] (freed e R s ∷ [])
-
--- how many of k slots from i on go
-unfoldable pub clearedFrom : (heights : List ℕ) → (i k : ℕ) → ℕ
-clearedFrom heights i zero = 0
-clearedFrom heights i (suc k) = pick (not (eqb (getD heights i 0) 0)) 1 0 + clearedFrom heights (suc i) k

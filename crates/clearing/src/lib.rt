@@ -6,13 +6,13 @@ ghost use mathlib.Core.Path.{_≡_};
 ghost use Prim.Native.Nat.{_<_};
 ghost use lib.ListN.{length};
 ghost use Rattle.meaning.specs.Edition.{Proper};
-ghost use Rattle.meaning.specs.Change.{puts, Change};
+ghost use Rattle.meaning.specs.Change.{puts};
 ghost use Rattle.meaning.specs.Calls.{deleteCall};
 ghost use Rattle.meaning.specs.Answers.{changeAnswer, Ends};
 ghost use Rattle.gate.specs.Gate.{Whole};
 ghost use Rattle.change.specs.Turns.{over};
 ghost use Rattle.surveying.specs.Reached.{Rows};
-ghost use Rattle.clearing.specs.Clear.{clearPlan, clearedFrom};
+ghost use Rattle.clearing.specs.Clear.{clearPlan};
 
 // A slot of the blob goes, any other stays.
 fn clear_slot(
@@ -34,20 +34,6 @@ fn clear_slot(
     }
     let version = record::version_of(slot::record_of(records, i));
     change::put_free(e, pool, records, scratch, i, version);
-}
-
-// How many slots a delete changes. Nothing is written.
-pub fn count_changes(heights: &[u8], n: usize) -> usize
-    requires { ⌜ length (now heights) ≡ n ⌝ }
-    ensures { λ r. ⌜ r ≡ clearedFrom (now (heights .entry)) 0 n ⌝ }
-{
-    let mut m = 0;
-    let mut i = 0;
-    while i < n {
-        m += usable::one_if(heights[i] != 0);
-        i += 1;
-    }
-    m
 }
 
 // Every slot of the blob goes, rising.

@@ -4,7 +4,7 @@ use mathlib.Core.Path.{_≡_, refl, ap, _∙_, sym}
 use mathlib.Core.Bool.{Bool, true, false}
 use mathlib.Core.List.{List, [], _∷_}
 use mathlib.Core.Logic.{_⊎_, inl, inr}
-use Prim.Native.Nat.{ℕ, zero, suc, _+_, _-_, _*_, _≤_, _<_}
+use Prim.Native.Nat.{ℕ, zero, suc, _+_, _*_, _≤_, _<_}
 use native.Mathlib.Numerals.{add-one}
 use native.Mathlib.Omega.{arith}
 use lib.ListN.{length}
@@ -30,13 +30,6 @@ use Rattle.growing.specs.Plans.{Here, AllHere, oldEnd, freePlan, growPlan, grow
 pub here-places : (e : Edition) (g : Growth) (P R hs fs : List ℕ) (root i : ℕ) → Here e g P R hs fs root i → (scratch : List ℕ)
     → length scratch ≡ e .size → Places e P R scratch i
 here-places e g P R hs fs root i here scratch l = record { block = here .spot .place; line = here .line; scratch = l }
-
-pub here-at : (e : Edition) (g : Growth) (n : ℕ) (P R hs fs : List ℕ) (root i : ℕ) → AllHere e g n P R hs fs root → i < n
-    → Here e g P R hs fs root i
-here-at e g n P R hs fs root i all l = all .each i l
-
-pub line-at : (e : Edition) (n : ℕ) (P R : List ℕ) (i : ℕ) → Whole e n P R → i < n → 12 * i + 12 ≤ length R
-line-at e n P R i w l = slot-fits 12 n i R (w .records) l
 
 -- and what is stored
 pub planned-puts : (w : ℕ) (f : Change → List ℕ) (cs ds : List Change) (l l′ : List ℕ) → cs ≡ ds → l′ ≡ puts w f cs l → l′ ≡ puts w f ds l

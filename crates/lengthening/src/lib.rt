@@ -1,4 +1,4 @@
-// A blob gets longer: every slot becomes what is planned of it, rising; and how many slots that changes.
+// A blob gets longer: every slot becomes what is planned of it, rising.
 use drawing::Growth;
 use meaning::Edition;
 use towers::Tower;
@@ -159,54 +159,4 @@ pub fn grow(
         n,
         root,
     );
-}
-
-// How many slots change.
-pub fn count_changes(
-    e: Edition,
-    g: Growth,
-    t: Tower,
-    pool: &[u8],
-    records: &[u8],
-    free: &[u32],
-    heights: &[u8],
-    firsts: &[u32],
-    kept: &[u8],
-    payload: &mut [u8],
-    n: usize,
-    root: usize,
-) -> usize
-    requires { ⌜ Proper e ⌝ }
-    requires { ⌜ Grows e g ⌝ }
-    requires { ⌜ Towers e g t ⌝ }
-    requires { ⌜ RootBlock e g t (now kept) ⌝ }
-    requires { ⌜ Whole e n (now pool) (now records) ⌝ }
-    requires { ⌜ AllHere e g n (now pool) (now records) (now heights) (now firsts) root ⌝ }
-    requires { ⌜ length (now payload) ≡ e .leaf ⌝ }
-    ensures { λ r. ⌜ r ≡ length (over (growPlans e g t (now (pool .entry)) (now (records .entry)) (now (free .entry)) (now (heights .entry)) (now (firsts .entry)) (now (kept .entry)) root) 0 n) ⌝ }
-{
-    let mut i = 0;
-    let mut below = 0;
-    let mut count = 0;
-    while i < n {
-        let turn = growing::plan_slot(
-            e,
-            g,
-            t,
-            pool,
-            records,
-            free,
-            heights,
-            firsts,
-            kept,
-            payload,
-            root,
-            i,
-            below,
-        );
-        count += turn::changes(turn);
-        below += usable::one_if(usable::is_usable(records, i));
-        i += 1;
-    }
-    count
 }

@@ -1,17 +1,14 @@
 -- The loops over the slots: a slot's turn is planned from pool and records as they were, since from slot i on they still are.
-use mathlib.Core.Path.{_≡_, refl, ap, _∙_, sym}
+use mathlib.Core.Path.{_≡_, refl, _∙_}
 use mathlib.Core.Bool.{Bool, true, false}
 use mathlib.Core.Logic.{_⊎_, inl, inr}
 use mathlib.Core.List.{List, [], _∷_}
-use Prim.Native.Nat.{ℕ, suc, _+_, _-_, _^_, _≤_, _<_}
-use native.Mathlib.Numerals.{add-one}
+use Prim.Native.Nat.{ℕ, _+_, _^_, _≤_, _<_}
 use native.Mathlib.Omega.{arith}
 use lib.Dec.{eqb}
-use lib.ListN.{length, getD, length-append, length-replicate}
-use mir.Syntax.{w64}
-use mir.Val.{Fits}
+use lib.ListN.{length, getD, length-replicate}
 use Rattle.meaning.specs.declared.Edition.{Edition}
-use Rattle.meaning.specs.Lists.{pick, both, joined, range}
+use Rattle.meaning.specs.Lists.{pick, both}
 use Rattle.meaning.specs.Edition.{Proper}
 use Rattle.meaning.specs.Bytes.{Cell, block, heightOf, countOf, state, recorded, recordAt, lastVersion}
 use Rattle.meaning.specs.Change.{Change, puts, freed, renewed}
@@ -19,10 +16,9 @@ use Rattle.laws.proofs.Codec.{encoded-length, record-length}
 use Rattle.visit.proofs.Laws.{slot-fits}
 use Rattle.gate.specs.Gate.{Whole}
 use Rattle.turn.specs.declared.Turn.{Turn}
-use Rattle.turn.specs.Turned.{turned, turns, Rises}
-use Rattle.turn.proofs.Laws.{turns-length}
+use Rattle.turn.specs.Turned.{turned, Rises}
 use Rattle.change.specs.Places.{Places}
-use Rattle.change.specs.Turns.{over, Turning}
+use Rattle.change.specs.Turns.{Turning}
 use Rattle.change.proofs.Laws.{block-left, record-left, turning-on}
 use Rattle.renewal.specs.Renewal.{renewal}
 use Rattle.cutting.specs.declared.Cut.{Cut}
@@ -129,49 +125,3 @@ module _ (e : Edition) (c : Cut) (hs fs kept : List ℕ) (root : ℕ) (P R : Lis
     pub carry-records : (R′ : List ℕ) → R′ ≡ puts 12 (λ c. c .line) (turned e R i turn x) R
         → R′ ≡ puts 12 (λ c. c .line) (cutPlan e c hs fs kept root P R i) R
     carry-records R′ er = rw (planned R) at er
-
--- what a slot's plan counts
-pub one-count : (e : Edition) (c : Cut) (hs fs kept : List ℕ) (root : ℕ) (P : List ℕ) (i : ℕ) (turn : Turn) (x : List ℕ)
-    → ((R : List ℕ) → turned e R i turn x ≡ cutPlan e c hs fs kept root P R i) → (k : ℕ) → k ≡ turns turn
-    → (R : List ℕ) → k ≡ length (cutPlan e c hs fs kept root P R i)
-one-count e c hs fs kept root P i turn x planned k ek R = ek ∙ sym (turns-length e R i turn x) ∙ ap length (planned R)
-
--- what is counted before turn i, whatever the records are
-pub record Counted (e : Edition) (n : ℕ) (c : Cut) (hs fs kept : List ℕ) (root : ℕ) (P : List ℕ) (i count : ℕ) : Type 0 where
-  pub all : (R : List ℕ) → length (over (cutPlan e c hs fs kept root P R) 0 n) ≡ count + length (over (cutPlan e c hs fs kept root P R) i (n - i))
-  pub few : count ≤ i
-  pub within : i ≤ n
-
--- the slots from i on
-over-none : (plan : ℕ → List Change) (i n : ℕ) → n ≤ i → length (over plan i (n - i)) ≡ 0
-unfolding over joined range
-over-none plan i n h = let z : n - i ≡ 0 = omega arith in rw z
-
-over-step : (plan : ℕ → List Change) (i n : ℕ) → i < n → length (over plan i (n - i)) ≡ length (plan i) + length (over plan (i + 1) (n - (i + 1)))
-unfolding over joined range
-over-step plan i n h = let z : n - i ≡ suc (n - suc i) = omega arith in rw (z, add-one) (length-append (plan i) _)
-
-module _ (e : Edition) (n : ℕ) (c : Cut) (hs fs kept : List ℕ) (root : ℕ) (P : List ℕ) where
-  pub count-start : Counted e n c hs fs kept root P 0 0
-  count-start = let z : n - 0 ≡ n = omega arith in record { all = λ R. rw z (omega arith); few = omega arith; within = omega arith }
-
-  module _ (i count : ℕ) (q : Counted e n c hs fs kept root P i count) where
-    pub count-done : n ≤ i → (R : List ℕ) → count ≡ length (over (cutPlan e c hs fs kept root P R) 0 n)
-    count-done end R = omega (arith, q .all R, over-none (cutPlan e c hs fs kept root P R) i n end)
-
-    pub count-most : count ≤ n
-    count-most = omega (arith, q .few, q .within)
-
-    pub count-here : i < n → ((s : ℕ) → s < n → Here e P hs fs s) → Here e P hs fs i
-    count-here less all = all i less
-
-    module _ (less : i < n) (k : ℕ) (small : k ≤ 1) where
-      pub count-fits : Fits w64 n → Fits w64 (count + k)
-      count-fits fits = record { fits = omega (arith, fits .fits, q .few) }
-
-      pub count-next : ((R : List ℕ) → k ≡ length (cutPlan e c hs fs kept root P R i)) → Counted e n c hs fs kept root P (i + 1) (count + k)
-      count-next one = record {
-        all = λ R. omega (arith, q .all R, over-step (cutPlan e c hs fs kept root P R) i n less, one R);
-        few = omega (arith, q .few);
-        within = omega arith;
-      }

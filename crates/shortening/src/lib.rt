@@ -1,8 +1,7 @@
-// A blob that gets shorter: the loop over the slots that makes each what is planned of it, and how many change.
+// A blob that gets shorter: the loop over the slots that makes each what is planned of it.
 use cutting::Cut;
 use meaning::Edition;
 ghost use mathlib.Core.Path.{_≡_};
-ghost use mathlib.Core.List.{List};
 ghost use Prim.Native.Nat.{ℕ, _+_, _-_, _*_, _^_, _≤_, _<_};
 ghost use lib.ListN.{length, getD};
 ghost use Rattle.meaning.specs.Edition.{Proper};
@@ -87,58 +86,6 @@ fn cut_all(
         );
         i += 1;
     }
-}
-
-// How many changes slot i has: one, or none.
-fn slot_changes(
-    e: Edition,
-    c: Cut,
-    pool: &[u8],
-    heights: &[u8],
-    firsts: &[u32],
-    kept: &[u8],
-    payload: &mut [u8],
-    root: usize,
-    i: usize,
-) -> usize
-    requires { ⌜ Proper e ⌝ }
-    requires { ⌜ Cuts e c ⌝ }
-    requires { ⌜ KeptBlock e c (now kept) ⌝ }
-    requires { ⌜ Here e (now pool) (now heights) (now firsts) i ⌝ }
-    requires { ⌜ length (now payload) ≡ e .leaf ⌝ }
-    ensures { λ r. ⌜ ((R : List ℕ) → r ≡ length (cutPlan e c (now (heights .entry)) (now (firsts .entry)) (now (kept .entry)) root (now (pool .entry)) R i)) ⌝ }
-    ensures { λ r. ⌜ r ≤ 1 ⌝ }
-{
-    turn::changes(cutting::plan_slot(e, c, pool, heights, firsts, kept, payload, root, i))
-}
-
-// How many slots change.
-pub fn count_changes(
-    e: Edition,
-    c: Cut,
-    pool: &[u8],
-    heights: &[u8],
-    firsts: &[u32],
-    kept: &[u8],
-    payload: &mut [u8],
-    n: usize,
-    root: usize,
-) -> usize
-    requires { ⌜ Proper e ⌝ }
-    requires { ⌜ Cuts e c ⌝ }
-    requires { ⌜ KeptBlock e c (now kept) ⌝ }
-    requires { ⌜ ((s : ℕ) → s < n → Here e (now pool) (now heights) (now firsts) s) ⌝ }
-    requires { ⌜ length (now payload) ≡ e .leaf ⌝ }
-    ensures { λ r. ⌜ ((R : List ℕ) → r ≡ length (over (cutPlan e c (now (heights .entry)) (now (firsts .entry)) (now (kept .entry)) root (now (pool .entry)) R) 0 n)) ⌝ }
-    ensures { λ r. ⌜ r ≤ n ⌝ }
-{
-    let mut i = 0;
-    let mut count = 0;
-    while i < n {
-        count += slot_changes(e, c, pool, heights, firsts, kept, payload, root, i);
-        i += 1;
-    }
-    count
 }
 
 // The slot of the left edge's block, so many steps of first children below the one in that slot.

@@ -3,64 +3,18 @@ use meaning::Changed;
 use meaning::Edition;
 use surveying::Reached;
 ghost use mathlib.Core.Path.{_≡_};
-ghost use Prim.Native.Nat.{_+_, _*_, _≤_, _<_};
+ghost use Prim.Native.Nat.{_+_, _*_, _<_};
 ghost use lib.ListN.{length};
 ghost use Rattle.meaning.specs.Edition.{Proper};
-ghost use Rattle.meaning.specs.Change.{puts, Change};
+ghost use Rattle.meaning.specs.Change.{puts};
 ghost use Rattle.meaning.specs.Calls.{writeCall};
 ghost use Rattle.meaning.specs.Answers.{changeAnswer, Ends};
 ghost use Rattle.gate.specs.Gate.{Whole};
 ghost use Rattle.change.specs.Turns.{over};
-ghost use Rattle.stretch.specs.Plan.{planOf, writePlan, Place, Counted};
-ghost use Rattle.writing.specs.Number.{counted, changingFrom, Plannable};
+ghost use Rattle.stretch.specs.Plan.{writePlan};
 ghost use Rattle.rewriting.specs.Unworn.{Unworn};
 ghost use Rattle.surveying.specs.Reached.{Rows};
 ghost use Rattle.writing.specs.Noted.{Leaves, barredBy, writeNoted};
-
-// 1 if a slot changes, else 0.
-fn count_slot(
-    e: Edition,
-    pool: &[u8],
-    heights: &[u8],
-    firsts: &[u32],
-    src: &[u8],
-    offset: usize,
-    i: usize,
-) -> usize
-    requires { ⌜ Proper e ⌝ }
-    requires { ⌜ Place e (now pool) (now heights) (now firsts) i ⌝ }
-    requires { ⌜ Counted e (now pool) (now heights) i ⌝ }
-    ensures { λ r. ⌜ (r ≡ counted (planOf e (now (pool .entry)) (now (heights .entry)) (now (firsts .entry)) (now (src .entry)) offset i)) × (r ≤ 1) ⌝ }
-{
-    let t = stretch::plan_slot(e, pool, heights, firsts, src, offset, i);
-    if t.count == 0 {
-        return 0;
-    }
-    1
-}
-
-// How many slots a write changes. Nothing is written.
-pub fn count_changes(
-    e: Edition,
-    pool: &[u8],
-    heights: &[u8],
-    firsts: &[u32],
-    src: &[u8],
-    n: usize,
-    offset: usize,
-) -> usize
-    requires { ⌜ Proper e ⌝ }
-    requires { ⌜ Plannable e n (now pool) (now heights) (now firsts) ⌝ }
-    ensures { λ r. ⌜ r ≡ changingFrom e (now (pool .entry)) (now (heights .entry)) (now (firsts .entry)) (now (src .entry)) offset 0 n ⌝ }
-{
-    let mut m = 0;
-    let mut i = 0;
-    while i < n {
-        m += count_slot(e, pool, heights, firsts, src, offset, i);
-        i += 1;
-    }
-    m
-}
 
 // Every slot that changes is stored, rising.
 fn write_all(

@@ -1,15 +1,15 @@
--- The loop's invariant: those counted and those still to come are all of them.
-use borrow.Author.Needs.{needs}
+-- The loop's invariant: the changes counted and those of the slots ahead are all, whatever the edition and the records are.
 use Prim.Native.Nat.{_-_}
-use Rattle.clearing.proofs.Numbers.{Counting, counting-start, counting-on, counting-end}
-use Rattle.clearing.proofs.count_changes.Statement.{statement}
-use Rattle.clearing.proofs.count_changes.Tie as tie
+use Rattle.counting.proofs.Counts.{Counting, counting-start, counting-fits, counting-on, counting-end, counting-most, cleared, clear-one}
+use borrow.Author.Needs.{needs}
+use Rattle.counting.proofs.count_clearing.Statement.{statement}
+use Rattle.counting.proofs.count_clearing.Tie as tie
 
 abbrev Inv-loop : tie.InvT-loop
-Inv-loop heights n m₀ i₀ m i = Counting n heights m i
+Inv-loop heights n i₀ m₀ i m = Counting (cleared heights) n i m
 
 abbrev μ-loop : tie.MeasureT-loop
-μ-loop heights n m₀ i₀ m i = n - i
+μ-loop heights n i₀ m₀ i m = n - i
 
 loop-holds : tie.Need-loop-holds Inv-loop μ-loop
 loop-holds c = search counting-start
@@ -21,7 +21,7 @@ one-if-requires : tie.Need-one-if-requires Inv-loop μ-loop
 one-if-requires c κs = search needs
 
 add-m : tie.Need-add-m Inv-loop μ-loop
-add-m c = search needs
+add-m c = search counting-fits
 
 add-i : tie.Need-add-i Inv-loop μ-loop
 add-i c = search needs
@@ -30,13 +30,13 @@ loop-less : tie.Need-loop-less Inv-loop μ-loop
 loop-less c = search needs
 
 loop-again : tie.Need-loop-again Inv-loop μ-loop
-loop-again c = search counting-on
+loop-again c = search (counting-on, clear-one)
 
 returns : tie.Need-returns Inv-loop μ-loop
-returns c = search counting-end
+returns c = (λ e R. counting-end _ _ _ _ (c .before .loop .inv) (c .loop-test .left) (e, R), search counting-most)
 
-pub count-changes-spec : {M : Type 1} → statement M
-count-changes-spec =
+pub count-clearing-spec : {M : Type 1} → statement M
+count-clearing-spec =
     tie.close
     (tie.spec
     Inv-loop
