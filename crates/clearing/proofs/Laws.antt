@@ -1,26 +1,22 @@
 -- Delete: the changes slot by slot are those of the definition, since a slot holds a block of the blob exactly if its height is noted.
 use mathlib.Core.Path.{_≡_, ap, _∙_, sym}
-use mathlib.Core.List.{List, [], _∷_}
-use mathlib.Core.Logic.{_⊎_, inl, inr}
-use Prim.Native.Nat.{ℕ, _+_, _<_}
-use borrow.Author.Tests.{eq-eqb, ne-eqb, eqb-true, eqb-false}
+use mathlib.Core.List.{List, []}
+use Prim.Native.Nat.{ℕ}
+use borrow.Author.Tests.{eqb-true, eqb-false}
 use lib.Dec.{eqb}
-use lib.ListN.{length, getD, replicate, length-replicate}
+use lib.ListN.{length, getD}
 use Rattle.meaning.specs.Lists.{pick}
 use Rattle.meaning.specs.Edition.{Proper}
-use Rattle.meaning.specs.Bytes.{recordAt, recordOf, recordedOf, recorded}
 use Rattle.meaning.specs.Tree.{Blob, held, cellsOf}
-use Rattle.meaning.specs.Change.{Change, put, puts, freed, changed, changedBy}
+use Rattle.meaning.specs.Change.{Change, puts, changed, changedBy}
 use Rattle.meaning.specs.Calls.{done, slotsIn, become, deleteOn, deleteIn, deleteCall, after}
 use Rattle.meaning.specs.Answers.{changeAnswer, Ends}
 use Rattle.meaning.specs.declared.Edition.{Edition}
 use Rattle.meaning.specs.declared.Refusal.{Refusal}
 use Rattle.meaning.specs.declared.Changed.the-variants as changed
 use Rattle.laws.proofs.Inversions.{by-test}
-use Rattle.laws.proofs.Codec.{record-length}
 use Rattle.growth.proofs.Changes.{held-at, held-absent}
 use Rattle.gate.specs.Gate.{Whole}
-use Rattle.visit.proofs.Laws.{slot-fits}
 use Rattle.sites.specs.Spelt.{blobAt}
 use Rattle.sites.specs.Known.{Known}
 use Rattle.sites.proofs.Knowing.{known-changing}
@@ -28,58 +24,9 @@ use Rattle.surveying.specs.declared.Reached.{Reached}
 use Rattle.surveying.specs.declared.Reached.the-variants as reached
 use Rattle.surveying.specs.Reached.{front, Behind, Reaches}
 use Rattle.surveying.proofs.Laws.{refused-so, reached-blob, reached-opened}
-use Rattle.change.specs.Places.{Places}
-use Rattle.change.specs.Turns.{over, Turning}
-use Rattle.change.proofs.Laws.{changes-over, over-same, record-left, turning-on}
-use Rattle.clearing.specs.Clear.{clearPlan}
-
--- one slot
-module _ (e : Edition) (n : ℕ) (P R heights : List ℕ) (i : ℕ) where
-  pub pool-stays : getD heights i 0 ≡ 0 → P ≡ puts (e .size) (λ c. c .block) (clearPlan e R heights i) P
-  unfolding clearPlan pick puts
-  pool-stays z = simp (eq-eqb (getD heights i 0) 0 z)
-
-  pub records-stay : getD heights i 0 ≡ 0 → R ≡ puts 12 (λ c. c .line) (clearPlan e R heights i) R
-  unfolding clearPlan pick puts
-  records-stay z = simp (eq-eqb (getD heights i 0) 0 z)
-
-  pub clear-places : Whole e n P R → i < n → (scratch : List ℕ) → length scratch ≡ e .size → Places e P R scratch i
-  clear-places w l scratch ls = record { block = slot-fits (e .size) n i P (w .pool) l; line = slot-fits 12 n i R (w .records) l; scratch = ls }
-
-  module _ (n′ : getD heights i 0 ≡ 0 → ⊥) (rb : List ℕ) (er : rb ≡ recordAt R i) (v : ℕ) (ev : v ≡ recordedOf rb) where
-    version-is : v ≡ recorded R i
-    unfolding recorded
-    version-is = ev ∙ ap recordedOf er
-
-    pub clear-pool : (P′ : List ℕ) → P′ ≡ put (e .size) i (replicate (e .size) 0) P → P′ ≡ puts (e .size) (λ c. c .block) (clearPlan e R heights i) P
-    unfolding clearPlan pick puts freed
-    clear-pool P′ ep = ep ∙ simp (ne-eqb (getD heights i 0) 0 n′)
-
-    pub clear-records : (R′ : List ℕ) → R′ ≡ put 12 i (recordOf 0 v) R → R′ ≡ puts 12 (λ c. c .line) (clearPlan e R heights i) R
-    unfolding clearPlan pick puts freed
-    clear-records R′ er′ = er′ ∙ rw version-is (simp (ne-eqb (getD heights i 0) 0 n′))
-
--- the loop: what a slot becomes is planned from the records as they were
-module _ (e : Edition) (n : ℕ) (heights P₀ R₀ : List ℕ) (i : ℕ) (P R : List ℕ) (t : Turning e n (clearPlan e R₀ heights) P₀ R₀ i P R) where
-  planned : clearPlan e R heights i ≡ clearPlan e R₀ heights i
-  unfolding clearPlan freed recorded
-  planned = rw (record-left e n (clearPlan e R₀ heights) P₀ R₀ i P R t)
-
-  plan-one : (s : ℕ) → (clearPlan e R₀ heights s ≡ [])
-      ⊎ ((b : List ℕ) × (line : List ℕ) × (clearPlan e R₀ heights s ≡ record { slot = s; block = b; line = line } ∷ []) × (length b ≡ e .size) × (length line ≡ 12))
-  unfolding clearPlan freed pick
-  plan-one s =
-      by-test (eqb (getD heights s 0) 0)
-      (λ q. inl (rw q))
-      (λ q. inr (replicate (e .size) 0, recordOf 0 (recorded R₀ s), (rw q), length-replicate (e .size) 0, record-length 0 (recorded R₀ s)))
-
-  pub clear-whole : Whole e n P₀ R₀ → Whole e n P R
-  clear-whole w = record { pool = t .poolLong ∙ w .pool; records = t .recordsLong ∙ w .records; some = w .some; few = w .few }
-
-  pub clear-turn : Whole e n P₀ R₀ → i < n → (P′ R′ : List ℕ) → P′ ≡ puts (e .size) (λ c. c .block) (clearPlan e R heights i) P
-      → R′ ≡ puts 12 (λ c. c .line) (clearPlan e R heights i) R → Turning e n (clearPlan e R₀ heights) P₀ R₀ (i + 1) P′ R′
-  clear-turn w l P′ R′ ep er =
-      turning-on e n (clearPlan e R₀ heights) P₀ R₀ i P R t l (w .pool) (w .records) (plan-one i) P′ R′ (rw planned at ep) (rw planned at er)
+use Rattle.change.specs.Turns.{over}
+use Rattle.change.proofs.Laws.{changes-over, over-same}
+use Rattle.freeing.specs.Clear.{clearPlan}
 
 -- the definition's changes
 module _ (e : Edition) (p : Proper e) (n : ℕ) (P R : List ℕ) (r len k : ℕ) (row hs fs : List ℕ) (g : Known e n P R r len k row hs fs) where

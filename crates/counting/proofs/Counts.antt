@@ -32,7 +32,7 @@ use Rattle.cutting.specs.Plans as cut
 use Rattle.stretch.specs.declared.Stretch.{Stretch}
 use Rattle.stretch.specs.Plan.{planOf, putBy, writePlan, Place, Counted}
 use Rattle.rewriting.proofs.Facts.{counted-known}
-use Rattle.clearing.specs.Clear.{clearPlan}
+use Rattle.freeing.specs.Clear.{clearPlan}
 use Rattle.counting.specs.Plannable.{Plannable}
 
 -- before slot i so many changes are counted

@@ -16,7 +16,7 @@ ghost use Rattle.towers.specs.Towers.{Towers, RootBlock};
 ghost use Rattle.growing.specs.Plans.{AllHere, growPlans};
 ghost use Rattle.cutting.specs.Plans.{Cuts, KeptBlock, Here, cutPlan};
 ghost use Rattle.stretch.specs.Plan.{Place, Counted, writePlan};
-ghost use Rattle.clearing.specs.Clear.{clearPlan};
+ghost use Rattle.freeing.specs.Clear.{clearPlan};
 ghost use Rattle.counting.specs.Plannable.{Plannable};
 
 // How many slots change when the blob gets longer.

@@ -4,36 +4,25 @@ use Rattle.clearing.proofs.Laws.{delete-refused, delete-whole, delete-h
 use borrow.Author.Needs.{needs}
 use Rattle.clearing.proofs.delete_call.Statement.{statement}
 use Rattle.clearing.proofs.delete_call.Tie as tie
-use Rattle.clearing.proofs.delete_call.Reads as reads
-use Rattle.clearing.proofs.delete_call.Lts as lts
-use Rattle.clearing.proofs.clear_all.Reads as clear-all-reads
-use Rattle.surveying.proofs.reach.Reads as reach-reads
 
--- src/lib.rt:77:11
 reach-requires : tie.Need-reach-requires
 reach-requires c κs = search needs
 
--- src/lib.rt:78:26
 enum-known-r : tie.Need-enum-known-r
 enum-known-r c = search needs
 
--- src/lib.rt:79:23
 enum-known-n : tie.Need-enum-known-n
 enum-known-n c = search needs
 
--- src/lib.rt:80:41
 sub-clear-all : tie.Need-sub-clear-all
 sub-clear-all c = search needs
 
--- src/lib.rt:80:41
 part-clear-all-start : tie.Need-part-clear-all-start
 part-clear-all-start c = search needs
 
--- src/lib.rt:80:41
 part-clear-all-end : tie.Need-part-clear-all-end
 part-clear-all-end c = search noted-heights
 
--- src/lib.rt:80:13
 clear-all-requires : tie.Need-clear-all-requires
 clear-all-requires c κs =
     let blob = c .before .before .before .before .before .before in
@@ -41,63 +30,48 @@ clear-all-requires c κs =
     let start = reach .before .before .before .before .before .before .before .before .before .before .before .before .before .before in
     (delete-whole _ _ _ _ _ _ _ _ (reach .reach .ensures) _ _ _ (blob .n .given .1), (delete-heights _ _ _ _ _ _ _ _ (reach .reach .ensures) _ _ _ (blob .n .given .1), start .pre .1 .1))
 
--- src/lib.rt:61:1
 same-length : tie.Need-same-length
 same-length c = search needs
 
--- src/lib.rt:61:1
 same-length-2 : tie.Need-same-length-2
 same-length-2 c = search needs
 
--- src/lib.rt:61:1
 same-length-3 : tie.Need-same-length-3
 same-length-3 c = search needs
 
--- src/lib.rt:61:1
 same-length-4 : tie.Need-same-length-4
 same-length-4 c = search needs
 
--- src/lib.rt:61:1
 same-length-5 : tie.Need-same-length-5
 same-length-5 c = search needs
 
--- src/lib.rt:61:1
 same-length-6 : tie.Need-same-length-6
 same-length-6 c = search needs
 
--- src/lib.rt:61:1
 returns : tie.Need-returns
 returns c = search delete-refused
 
--- src/lib.rt:61:1
 same-length-7 : tie.Need-same-length-7
 same-length-7 c = search needs
 
--- src/lib.rt:61:1
 same-length-8 : tie.Need-same-length-8
 same-length-8 c = search needs
 
--- src/lib.rt:61:1
 same-length-9 : tie.Need-same-length-9
 same-length-9 c = search needs
 
--- src/lib.rt:61:1
 same-length-10 : tie.Need-same-length-10
 same-length-10 c = search needs
 
--- src/lib.rt:61:1
 same-length-11 : tie.Need-same-length-11
 same-length-11 c = search needs
 
--- src/lib.rt:61:1
 same-length-12 : tie.Need-same-length-12
 same-length-12 c = search needs
 
--- src/lib.rt:61:1
 same-length-13 : tie.Need-same-length-13
 same-length-13 c = search needs
 
--- src/lib.rt:61:1
 returns-2 : tie.Need-returns-2
 returns-2 c =
     let clear = c .before .before .before .before .before .before in

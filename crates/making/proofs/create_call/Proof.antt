@@ -4,72 +4,52 @@ use Rattle.making.proofs.Laws.{create-barred, create-whole, create-open
 use borrow.Author.Needs.{needs}
 use Rattle.making.proofs.create_call.Statement.{statement}
 use Rattle.making.proofs.create_call.Tie as tie
-use Rattle.making.proofs.create_call.Reads as reads
-use Rattle.making.proofs.create_call.Lts as lts
-use Rattle.gate.proofs.open.Reads as open-reads
-use Rattle.making.proofs.create_in.Reads as create-in-reads
 
--- src/lib.rt:72:11
 open-requires : tie.Need-open-requires
 open-requires c κs = search needs
 
--- src/lib.rt:73:25
 enum-known-r : tie.Need-enum-known-r
 enum-known-r c = search needs
 
--- src/lib.rt:74:23
 enum-known-n : tie.Need-enum-known-n
 enum-known-n c = search needs
 
--- src/lib.rt:74:57
 sub-create-in : tie.Need-sub-create-in
 sub-create-in c = search needs
 
--- src/lib.rt:74:57
 part-create-in-start : tie.Need-part-create-in-start
 part-create-in-start c = search needs
 
--- src/lib.rt:74:57
 part-create-in-end : tie.Need-part-create-in-end
 part-create-in-end c = search flags-reach
 
--- src/lib.rt:74:29
 create-in-requires : tie.Need-create-in-requires
 create-in-requires c κs = (search needs, (search create-whole, (search flags-lent, search needs)))
 
--- src/lib.rt:60:1
 same-length : tie.Need-same-length
 same-length c = search needs
 
--- src/lib.rt:60:1
 same-length-2 : tie.Need-same-length-2
 same-length-2 c = search needs
 
--- src/lib.rt:60:1
 returns : tie.Need-returns
 returns c = search create-barred
 
--- src/lib.rt:60:1
 same-length-3 : tie.Need-same-length-3
 same-length-3 c = search needs
 
--- src/lib.rt:60:1
 same-length-4 : tie.Need-same-length-4
 same-length-4 c = search needs
 
--- src/lib.rt:60:1
 same-length-5 : tie.Need-same-length-5
 same-length-5 c = search needs
 
--- src/lib.rt:60:1
 same-length-6 : tie.Need-same-length-6
 same-length-6 c = search needs
 
--- src/lib.rt:60:1
 same-length-7 : tie.Need-same-length-7
 same-length-7 c = search needs
 
--- src/lib.rt:60:1
 returns-2 : tie.Need-returns-2
 returns-2 c = search create-opened
 

@@ -1,8 +1,8 @@
 -- The refusal's number with nothing changed, or every slot's change stored.
-use Rattle.writing.proofs.Laws.{noted-refused, noted-leaves, noted-done}
+use Rattle.putting.proofs.Laws.{noted-refused, noted-leaves, noted-done}
 use borrow.Author.Needs.{needs}
-use Rattle.writing.proofs.write_noted.Statement.{statement}
-use Rattle.writing.proofs.write_noted.Tie as tie
+use Rattle.putting.proofs.write_noted.Statement.{statement}
+use Rattle.putting.proofs.write_noted.Tie as tie
 
 barred-requires : tie.Need-barred-requires
 barred-requires c κs = search needs

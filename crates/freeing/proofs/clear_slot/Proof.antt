@@ -1,8 +1,8 @@
 -- The height noted decides: the slot stays, or its block goes.
-use Rattle.clearing.proofs.Laws.{pool-stays, records-stay, clear-places, clear-pool, clear-records}
+use Rattle.freeing.proofs.Laws.{pool-stays, records-stay, clear-places, clear-pool, clear-records}
 use borrow.Author.Needs.{needs}
-use Rattle.clearing.proofs.clear_slot.Statement.{statement}
-use Rattle.clearing.proofs.clear_slot.Tie as tie
+use Rattle.freeing.proofs.clear_slot.Statement.{statement}
+use Rattle.freeing.proofs.clear_slot.Tie as tie
 
 shared-slice-read-if1 : tie.Need-shared-slice-read-if1
 shared-slice-read-if1 c = search needs

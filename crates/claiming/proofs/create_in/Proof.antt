@@ -1,9 +1,9 @@
 -- The pool check's fault, or what is behind it.
 use Rattle.reading.proofs.Opening.{whole-sized}
-use Rattle.making.proofs.Laws.{create-fault, create-behind}
+use Rattle.claiming.proofs.Laws.{create-fault, create-behind}
 use borrow.Author.Needs.{needs}
-use Rattle.making.proofs.create_in.Statement.{statement}
-use Rattle.making.proofs.create_in.Tie as tie
+use Rattle.claiming.proofs.create_in.Statement.{statement}
+use Rattle.claiming.proofs.create_in.Tie as tie
 
 check-requires : tie.Need-check-requires
 check-requires c κs = (search needs, (search whole-sized, search needs))

@@ -1,8 +1,8 @@
 -- No usable slot, or one change.
-use Rattle.making.proofs.Laws.{create-full, create-line, create-places, create-small, create-fits, create-done}
+use Rattle.claiming.proofs.Laws.{create-full, create-line, create-places, create-small, create-fits, create-done}
 use borrow.Author.Needs.{needs}
-use Rattle.making.proofs.create_free.Statement.{statement}
-use Rattle.making.proofs.create_free.Tie as tie
+use Rattle.claiming.proofs.create_free.Statement.{statement}
+use Rattle.claiming.proofs.create_free.Tie as tie
 
 lowest-requires : tie.Need-lowest-requires
 lowest-requires c κs = search needs

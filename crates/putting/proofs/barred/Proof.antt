@@ -1,8 +1,8 @@
 -- Refusal 12 first, then 10 by two comparisons, neither of which adds.
-use Rattle.writing.proofs.Laws.{barred-worn, barred-before, barred-past, barred-none}
+use Rattle.putting.proofs.Laws.{barred-worn, barred-before, barred-past, barred-none}
 use borrow.Author.Needs.{needs}
-use Rattle.writing.proofs.barred.Statement.{statement}
-use Rattle.writing.proofs.barred.Tie as tie
+use Rattle.putting.proofs.barred.Statement.{statement}
+use Rattle.putting.proofs.barred.Tie as tie
 
 is-worn-requires : tie.Need-is-worn-requires
 is-worn-requires c κs = search needs
