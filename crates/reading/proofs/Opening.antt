@@ -4,7 +4,7 @@ use mathlib.Core.Bool.{Bool, true, false, not}
 use mathlib.Core.List.{List, [], _∷_, map}
 use Prim.Native.Nat.{ℕ, zero, suc, _+_, _*_, _≤_, _<_}
 use native.Mathlib.Omega.{arith}
-use borrow.Author.Tests.{ltb-true, not-true, not-false}
+use borrow.Author.Tests.{ltb-true, eqb-true, not-true, not-false}
 use lib.Dec.{eqb, ltb}
 use lib.ListN.{length, getD, take, set, replicate, length-replicate, length-set}
 use lib.Seq.{take-all, take-suc-set}
@@ -31,9 +31,13 @@ use Rattle.reading.proofs.Answering.{noted-fault, noted-fine}
 pub whole-sized : (e : Edition) (n : ℕ) (P R seen : List ℕ) → Whole e n P R → seen ≡ replicate n 0 → Sized e n P R seen
 whole-sized e n P R seen w s = record { pool = w .pool; records = w .records; flags = ap length s ∙ length-replicate n 0 }
 
--- behind refusal 3 the root lies in the pool
-pub root-below : (R : List ℕ) (n r : ℕ) (t : Bool) → t ≡ both (ltb r n) (eqb (state R r) 2) → not t ≡ false → r < n
-root-below R n r t et p = ltb-true r n (both-true _ _ (sym et ∙ not-false t p) .0)
+-- behind refusal 3 the root lies in the pool, and its record is a root's
+module _ (R : List ℕ) (n r : ℕ) (t : Bool) (et : t ≡ both (ltb r n) (eqb (state R r) 2)) (p : not t ≡ false) where
+  pub root-below : r < n
+  root-below = ltb-true r n (both-true _ _ (sym et ∙ not-false t p) .0)
+
+  pub root-recorded : state R r ≡ 2
+  root-recorded = eqb-true (state R r) 2 (both-true (ltb r n) _ (sym et ∙ not-false t p) .1)
 
 -- a blob that the walk found, with what was noted of it
 pub record Blobbed (e : Edition) (n : ℕ) (P R : List ℕ) (r b k : ℕ) (o sx ox : List ℕ) : Type 0 where

@@ -5,7 +5,6 @@ use mathlib.Core.Bool.{Bool, true, false, not}
 use mathlib.Core.List.{List, [], _++_}
 use Prim.Native.Nat.{ℕ, _+_, _-_, _*_, _≤_, _<_}
 use native.Mathlib.Omega.{arith}
-use borrow.Author.Tests.{not-false, ltb-true, eqb-true}
 use borrow.Rule.Slice.PartMut.{putMid}
 use borrow.Table.Elements.{take-le}
 use lib.Dec.{eqb, ltb}
@@ -21,7 +20,6 @@ use Rattle.meaning.specs.declared.Edition.{Edition}
 use Rattle.meaning.specs.declared.Refusal.{Refusal}
 use Rattle.meaning.specs.declared.Changed.{Changed}
 use Rattle.meaning.specs.declared.Changed.the-variants as changed
-use Rattle.laws.proofs.Inversions.{both-true}
 use Rattle.gate.specs.Gate.{Whole, gate}
 use Rattle.gate.specs.declared.Opened.{Opened}
 use Rattle.gate.specs.declared.Opened.the-variants.{Slots, Refused}
@@ -29,7 +27,7 @@ use Rattle.gate.proofs.Laws.{gate-whole, gate-behind, gate-barred}
 use Rattle.visit.specs.Visit.{Sized}
 use Rattle.walk.specs.declared.Walked.{Walked}
 use Rattle.walk.specs.declared.Walked.the-variants.{Fault, Fine}
-use Rattle.reading.proofs.Opening.{whole-sized}
+use Rattle.reading.proofs.Opening.{whole-sized, root-below, root-recorded}
 use Rattle.reading.proofs.Lending.{row-reaches, row-lent, flags-reach, flags-lent}
 use Rattle.sites.specs.Known.{Known, Surveyed}
 use Rattle.sites.proofs.Knowing.{surveyed-fault, surveyed-known}
@@ -48,15 +46,9 @@ module _ (e : Edition) (n : ℕ) (P R : List ℕ) (r : ℕ) (t : Bool) (et : t �
   unrooted p q eq row hs fs = λ f. rw eq (simp (← et, p))
 
   module _ (p : not t ≡ false) where
-    pub root-within : r < n
-    root-within = ltb-true r n (both-true _ _ (sym et ∙ not-false t p) .0)
-
-    pub root-state : state R r ≡ 2
-    root-state = eqb-true (state R r) 2 (both-true (ltb r n) _ (sym et ∙ not-false t p) .1)
-
     pub root-surveyed : (w : Walked) (row hs fs : List ℕ) → Surveyed e n P R r w row hs fs → Rooted e n P R r w row hs fs
     unfolding Rooted
-    root-surveyed (Fault q) row hs fs sv = λ f. surveyed-fault e n P R r (Fault q) row hs fs sv q refl root-within root-state f
+    root-surveyed (Fault q) row hs fs sv = λ f. surveyed-fault e n P R r (Fault q) row hs fs sv q refl (root-below R n r t et p) (root-recorded R n r t et p) f
     root-surveyed (Fine len k) row hs fs sv = surveyed-known e n P R r (Fine len k) row hs fs sv len k refl
 
 -- the front of a row

@@ -1,5 +1,6 @@
 -- Refusal 3, or the survey as it is.
-use Rattle.surveying.proofs.Laws.{room-sized, unrooted, root-within, root-state, root-surveyed}
+use Rattle.surveying.proofs.Laws.{room-sized, unrooted, root-surveyed}
+use Rattle.reading.proofs.Opening.{root-below, root-recorded}
 use borrow.Author.Needs.{needs}
 use Rattle.surveying.proofs.survey_root.Statement.{statement}
 use Rattle.surveying.proofs.survey_root.Tie as tie
@@ -23,7 +24,7 @@ returns c = search unrooted
 
 -- src/lib.rt:34:5
 survey-requires : tie.Need-survey-requires
-survey-requires c κs = (search needs, (search room-sized, (search needs, ((search root-within, search root-state), (search needs, search needs)))))
+survey-requires c κs = (search needs, (search room-sized, (search needs, ((search root-below, search root-recorded), (search needs, search needs)))))
 
 -- src/lib.rt:16:1
 same-length : tie.Need-same-length
