@@ -29,7 +29,7 @@ use Rattle.growth.proofs.Pools.{pool-standing}
 use Rattle.walk.proofs.Putting.{put-there, put-length}
 use Rattle.sites.specs.Spelt.{blobAt}
 use Rattle.sites.specs.Marks.{tall, begin, Marked, SitesStart}
-use Rattle.sites.specs.Known.{Known, Surveyed}
+use Rattle.sites.specs.Known.{Known}
 use Rattle.sites.proofs.Walks.{WalkedTo, pool-walked, walk-spelt, walked-few, walked-start}
 use Rattle.sites.proofs.Rows.{puts-length, site-here, site-count, sites-said}
 
@@ -130,9 +130,14 @@ rooted-on e n P R r within is o = simp (lt-ltb r n within, eq-eqb (state R r) 2 
 -- w is the answer of the pool check
 module _ (e : Edition) (n : ℕ) (P R : List ℕ) (r : ℕ) (o : List ℕ) (w : Walked) (sx ox : List ℕ) (ew : met w sx ox ≡ poolNoted e n P R r o) where
   -- a fault is the pool check's
-  pub survey-fault : (f : Refusal) → w ≡ Fault f → (row hs fs : List ℕ) → Surveyed e n P R r w row hs fs
-  unfolding met poolNoted Surveyed
-  survey-fault f ef row hs fs = rw ef (noted-fault (noteNamed r (kept 0 0 o)) f (poolCheck e n P R) (rw ef at ew))
+  check-fault : (f : Refusal) → w ≡ Fault f → poolCheck e n P R ≡ fault f
+  unfolding met poolNoted
+  check-fault f ef = noted-fault (noteNamed r (kept 0 0 o)) f (poolCheck e n P R) (rw ef at ew)
+
+  -- and a changing call is refused so
+  pub fault-changing : (f : Refusal) → w ≡ Fault f → r < n → state R r ≡ 2 → {A : Type 0} (k : Blob → Outcome A) → changing e n P R r k ≡ refused f
+  unfolding changing afterCheck
+  fault-changing f ef within is k = rooted-on e n P R r within is _ ∙ rw (check-fault f ef)
 
   module _ (within : r < n) (is : state R r ≡ 2) (len k : ℕ) (ek : w ≡ Fine len k) where
     passed : (bs : List Blob) × (poolCheck e n P R ≡ fine bs sx) × (record { bytes = len; leaves = k; row = ox } ≡ noteNamed r (kept 0 0 o) bs)
@@ -189,24 +194,6 @@ module _ (e : Edition) (n : ℕ) (P R : List ℕ) (r : ℕ) (o : List ℕ) (w : 
                 let a = site-here e n P r inside s x q in
                 (a .fit, a .row, site-count e n P r inside p whole s x q);
           }
-
-      pub survey-known : length o ≡ n → (hs′ fs′ : List ℕ) → Marked (sitesOf (blobAt e P r)) hs fs hs′ fs′ → Surveyed e n P R r w ox hs′ fs′
-      unfolding Surveyed
-      survey-known lo hs′ fs′ noted = rw ek (known lo hs′ fs′ noted)
-
--- what a caller of the survey learns from its answer
-module _ (e : Edition) (n : ℕ) (P R : List ℕ) (r : ℕ) (w : Walked) (row hs fs : List ℕ) (survey : Surveyed e n P R r w row hs fs) where
-  -- at a fault, that a changing call is refused so
-  pub surveyed-fault : (f : Refusal) → w ≡ Fault f → r < n → state R r ≡ 2 → {A : Type 0} (k : Blob → Outcome A) → changing e n P R r k ≡ refused f
-  unfolding Surveyed changing afterCheck
-  surveyed-fault f ef within is k =
-      let q : poolCheck e n P R ≡ fault f = rw ef at survey in
-      rooted-on e n P R r within is _ ∙ rw q
-
-  -- and else all that is known
-  pub surveyed-known : (len k : ℕ) → w ≡ Fine len k → Known e n P R r len k row hs fs
-  unfolding Surveyed
-  surveyed-known len k ek = rw ek at survey
 
 -- a changing call is what it does on that blob
 pub known-changing : (e : Edition) (n : ℕ) (P R : List ℕ) (r len k : ℕ) (row hs fs : List ℕ) → Known e n P R r len k row hs fs

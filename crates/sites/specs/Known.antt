@@ -6,11 +6,9 @@ use lib.ListN.{length, getD, take}
 use Rattle.meaning.specs.declared.Edition.{Edition}
 use Rattle.meaning.specs.Bytes.{block, countOf, state}
 use Rattle.meaning.specs.Tree.{Blob, rootOf, leavesOf, lengthOf}
-use Rattle.meaning.specs.Walk.{fault, fine, poolCheck}
+use Rattle.meaning.specs.Walk.{fine, poolCheck}
 use Rattle.laws.proofs.Walked.{leafSlots}
 use Rattle.laws.proofs.Codec.{rowOf}
-use Rattle.walk.specs.declared.Walked.{Walked}
-use Rattle.walk.specs.declared.Walked.the-variants.{Fault, Fine}
 use Rattle.growth.specs.Sites.{Site, sitesOf, absent, at, sited}
 use Rattle.growth.proofs.Resized.{Standing}
 use Rattle.sites.specs.Spelt.{Fit, blobAt, siteAt}
@@ -45,8 +43,3 @@ pub record Known (e : Edition) (n : ℕ) (P R : List ℕ) (r len k : ℕ) (row h
   -- what lies in the slots of its blocks
   pub fit : (s : ℕ) (x : Site) → sited (sitesOf (blobAt e P r)) s ≡ at x
       → Fit e n P (x .height) s × (x .row ≡ rowOf (x .height) (block e P s)) × (length (x .row) ≡ countOf (block e P s))
-
--- what the pool check's answer says, once the sites are noted: at a fault the rows say nothing
-unfoldable pub Surveyed : (e : Edition) (n : ℕ) (P R : List ℕ) (r : ℕ) → Walked → (row hs fs : List ℕ) → Type 0
-Surveyed e n P R r (Fault f) row hs fs = poolCheck e n P R ≡ fault f
-Surveyed e n P R r (Fine len k) row hs fs = Known e n P R r len k row hs fs

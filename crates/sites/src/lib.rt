@@ -1,18 +1,15 @@
 // Where the blocks of a blob stand: for each slot the height of its block and the number of its first leaf, noted in two lent rows.
 // The blob was found by the pool check, so nothing is checked here.
 use meaning::Edition;
-use walk::Walked;
 ghost use mathlib.Core.Path.{_≡_};
-ghost use Prim.Native.Nat.{_+_, _*_, _^_, _≤_, _<_};
-ghost use lib.ListN.{length, drop, set, replicate};
+ghost use Prim.Native.Nat.{_+_, _^_, _<_};
+ghost use lib.ListN.{length, drop, set};
 ghost use Rattle.meaning.specs.Lists.{fours};
 ghost use Rattle.meaning.specs.Edition.{Proper};
-ghost use Rattle.meaning.specs.Bytes.{block, state};
+ghost use Rattle.meaning.specs.Bytes.{block};
 ghost use Rattle.growth.specs.Sites.{sitesOf};
-ghost use Rattle.visit.specs.Visit.{Sized};
 ghost use Rattle.sites.specs.Spelt.{blobAt, treeSites, rowSites, treeLeaves, rowLeaves};
 ghost use Rattle.sites.specs.Marks.{Marked, BlockStart, RowStart, SitesStart};
-ghost use Rattle.sites.specs.Known.{Surveyed};
 
 // Notes one block: one more than its height, and its first leaf.
 fn note_slot(heights: &mut [u8], firsts: &mut [u32], slot: usize, h: usize, first: usize)
@@ -115,32 +112,4 @@ pub fn note_sites(
 {
     let h = block::check::height_of(slot::block_of(e, pool, root));
     note_block(e, pool, heights, firsts, n, h, root, 0);
-}
-
-// What every changing call on a blob starts with: the pool check, and where the blob's blocks stand.
-pub fn survey(
-    e: Edition,
-    pool: &[u8],
-    records: &[u8],
-    seen: &mut [u8],
-    row: &mut [u32],
-    heights: &mut [u8],
-    firsts: &mut [u32],
-    n: usize,
-    root: usize,
-) -> Walked
-    requires { ⌜ Proper e ⌝ }
-    requires { ⌜ Sized e n (now pool) (now records) (now seen) ⌝ }
-    requires { ⌜ (n ≤ e .most) × (now seen ≡ replicate n 0) ⌝ }
-    requires { ⌜ (root < n) × (state (now records) root ≡ 2) ⌝ }
-    requires { ⌜ (length (now row) ≡ n) × (now heights ≡ replicate n 0) ⌝ }
-    requires { ⌜ length (now firsts) ≡ n ⌝ }
-    ensures { λ r. ⌜ Surveyed e n (now (pool .entry)) (now (records .entry)) root r (now (row .exit)) (now (heights .exit)) (now (firsts .exit)) ⌝ }
-{
-    let walked = pool::check(e, pool, records, seen, row, n, root);
-    let Walked::Fine(_, _) = walked else {
-        return walked;
-    };
-    note_sites(e, pool, heights, firsts, n, root);
-    walked
 }

@@ -31,17 +31,13 @@ fn survey_root(
     if !gate::is_root(records, n, root) {
         return Walked::Fault(meaning::refuse_nowhere(3));
     }
-    sites::survey(
-        e,
-        pool,
-        records,
-        seen,
-        row,
-        heights,
-        firsts,
-        n,
-        root as usize,
-    )
+    let at = root as usize;
+    let walked = pool::check(e, pool, records, seen, row, n, at);
+    let Walked::Fine(_, _) = walked else {
+        return walked;
+    };
+    sites::note_sites(e, pool, heights, firsts, n, at);
+    walked
 }
 
 // Refusals 1 and 2, then what is behind them, in the rows' first n places.
