@@ -1,20 +1,18 @@
 -- What every reading call on one blob shares: refusal 3, the blob check, and the blob behind them.
 use mathlib.Core.Path.{_≡_, refl, ap, _∙_, sym}
 use mathlib.Core.Bool.{Bool, true, false, not}
-use mathlib.Core.List.{List, [], _∷_, map}
-use Prim.Native.Nat.{ℕ, zero, suc, _+_, _*_, _≤_, _<_}
+use mathlib.Core.List.{List}
+use Prim.Native.Nat.{ℕ, _<_}
 use native.Mathlib.Omega.{arith}
 use borrow.Author.Tests.{ltb-true, eqb-true, not-true, not-false}
 use lib.Dec.{eqb, ltb}
-use lib.ListN.{length, getD, take, set, replicate, length-replicate, length-set}
-use lib.Seq.{take-all, take-suc-set}
+use lib.ListN.{length, replicate, length-replicate}
 use Rattle.meaning.specs.Lists.{pick, both}
 use Rattle.meaning.specs.Bytes.{state}
 use Rattle.meaning.specs.Tree.{Blob, contentOf, leavesOf, lengthOf}
 use Rattle.meaning.specs.Refusals.{nowhere}
 use Rattle.meaning.specs.Walk.{Found, fault, fine, fromRoot, blobCheck}
-use Rattle.meaning.specs.Edition.{Proper}
-use Rattle.meaning.specs.Calls.{Outcome, refused, done, refuseIf, afterCheck, rooted, reading}
+use Rattle.meaning.specs.Calls.{Outcome, refused, refuseIf, afterCheck, rooted, reading}
 use Rattle.meaning.specs.declared.Edition.{Edition}
 use Rattle.meaning.specs.declared.Refusal.{Refusal}
 use Rattle.laws.proofs.Inversions.{both-true}

@@ -3,124 +3,91 @@ use Rattle.surveying.proofs.Laws.{seen-reaches, places-reach, heights-r
 use borrow.Author.Needs.{needs}
 use Rattle.surveying.proofs.reach.Statement.{statement}
 use Rattle.surveying.proofs.reach.Tie as tie
-use Rattle.surveying.proofs.reach.Reads as reads
-use Rattle.surveying.proofs.reach.Lts as lts
-use Rattle.gate.proofs.open.Reads as open-reads
-use Rattle.surveying.proofs.survey_root.Reads as survey-root-reads
 
--- src/lib.rt:62:11
 open-requires : tie.Need-open-requires
 open-requires c κs = search needs
 
--- src/lib.rt:63:25
 enum-known-r : tie.Need-enum-known-r
 enum-known-r c = search needs
 
--- src/lib.rt:64:23
 enum-known-n : tie.Need-enum-known-n
 enum-known-n c = search needs
 
--- src/lib.rt:69:17
 sub-survey-root : tie.Need-sub-survey-root
 sub-survey-root c = search needs
 
--- src/lib.rt:69:17
 part-survey-root-start : tie.Need-part-survey-root-start
 part-survey-root-start c = search needs
 
--- src/lib.rt:69:17
 part-survey-root-end : tie.Need-part-survey-root-end
 part-survey-root-end c = search seen-reaches
 
--- src/lib.rt:70:17
 sub-survey-root-2 : tie.Need-sub-survey-root-2
 sub-survey-root-2 c = search needs
 
--- src/lib.rt:70:17
 part-survey-root-start-2 : tie.Need-part-survey-root-start-2
 part-survey-root-start-2 c = search needs
 
--- src/lib.rt:70:17
 part-survey-root-end-2 : tie.Need-part-survey-root-end-2
 part-survey-root-end-2 c = search places-reach
 
--- src/lib.rt:71:17
 sub-survey-root-3 : tie.Need-sub-survey-root-3
 sub-survey-root-3 c = search needs
 
--- src/lib.rt:71:17
 part-survey-root-start-3 : tie.Need-part-survey-root-start-3
 part-survey-root-start-3 c = search needs
 
--- src/lib.rt:71:17
 part-survey-root-end-3 : tie.Need-part-survey-root-end-3
 part-survey-root-end-3 c = search heights-reach
 
--- src/lib.rt:72:17
 sub-survey-root-4 : tie.Need-sub-survey-root-4
 sub-survey-root-4 c = search needs
 
--- src/lib.rt:72:17
 part-survey-root-start-4 : tie.Need-part-survey-root-start-4
 part-survey-root-start-4 c = search needs
 
--- src/lib.rt:72:17
 part-survey-root-end-4 : tie.Need-part-survey-root-end-4
 part-survey-root-end-4 c = search firsts-reach
 
--- src/lib.rt:65:17
 survey-root-requires : tie.Need-survey-root-requires
 survey-root-requires c κs = (search needs, search reach-room)
 
--- src/lib.rt:77:31
 enum-known-walked : tie.Need-enum-known-walked
 enum-known-walked c = search needs
 
--- src/lib.rt:78:30
 enum-known-walked-2 : tie.Need-enum-known-walked-2
 enum-known-walked-2 c = search needs
 
--- src/lib.rt:48:1
 returns : tie.Need-returns
 returns c = search reach-barred
 
--- src/lib.rt:48:1
 same-length : tie.Need-same-length
 same-length c = search needs
 
--- src/lib.rt:48:1
 same-length-2 : tie.Need-same-length-2
 same-length-2 c = search needs
 
--- src/lib.rt:48:1
 same-length-3 : tie.Need-same-length-3
 same-length-3 c = search needs
 
--- src/lib.rt:48:1
 same-length-4 : tie.Need-same-length-4
 same-length-4 c = search needs
 
--- src/lib.rt:48:1
 returns-2 : tie.Need-returns-2
 returns-2 c = search reach-fault
 
--- src/lib.rt:48:1
 same-length-5 : tie.Need-same-length-5
 same-length-5 c = search needs
 
--- src/lib.rt:48:1
 same-length-6 : tie.Need-same-length-6
 same-length-6 c = search needs
 
--- src/lib.rt:48:1
 same-length-7 : tie.Need-same-length-7
 same-length-7 c = search needs
 
--- src/lib.rt:48:1
 same-length-8 : tie.Need-same-length-8
 same-length-8 c = search needs
 
--- src/lib.rt:48:1
 returns-3 : tie.Need-returns-3
 returns-3 c = search reach-blob
 

@@ -4,48 +4,34 @@ use Rattle.store.proofs.Changing.{rows-here, delete-one}
 use borrow.Author.Needs.{needs}
 use Rattle.store.proofs.changes.delete.Statement.{statement}
 use Rattle.store.proofs.changes.delete.Tie as tie
-use Rattle.store.proofs.changes.delete.Reads as reads
-use Rattle.store.proofs.changes.delete.Lts as lts
-use Rattle.clearing.proofs.delete_call.Reads as delete-call-reads
-use Rattle.meaning.proofs.edition_one.Reads as edition-one-reads
 
--- src/changes.rt:32:9
 edition-one-requires : tie.Need-edition-one-requires
 edition-one-requires c κs = search needs
 
--- src/changes.rt:42:9
 slice-aggregate-delete-call : tie.Need-slice-aggregate-delete-call
 slice-aggregate-delete-call c = search needs
 
--- src/changes.rt:43:9
 slice-aggregate-delete-call-2 : tie.Need-slice-aggregate-delete-call-2
 slice-aggregate-delete-call-2 c = search needs
 
--- src/changes.rt:44:9
 slice-aggregate-delete-call-3 : tie.Need-slice-aggregate-delete-call-3
 slice-aggregate-delete-call-3 c = search needs
 
--- src/changes.rt:45:9
 slice-aggregate-delete-call-4 : tie.Need-slice-aggregate-delete-call-4
 slice-aggregate-delete-call-4 c = search needs
 
--- src/changes.rt:46:9
 slice-aggregate-delete-call-5 : tie.Need-slice-aggregate-delete-call-5
 slice-aggregate-delete-call-5 c = search needs
 
--- src/changes.rt:38:5
 delete-call-requires : tie.Need-delete-call-requires
 delete-call-requires c κs = (search one-here, (search rows-here, search scratch-here))
 
--- src/changes.rt:29:1
 same-length : tie.Need-same-length
 same-length c = search needs
 
--- src/changes.rt:29:1
 same-length-2 : tie.Need-same-length-2
 same-length-2 c = search needs
 
--- src/changes.rt:29:1
 returns : tie.Need-returns
 returns c = search delete-one
 

@@ -4,56 +4,40 @@ use Rattle.store.proofs.Changing.{rows-here, drafts-here, resize-one}
 use borrow.Author.Needs.{needs}
 use Rattle.store.proofs.changes.resize.Statement.{statement}
 use Rattle.store.proofs.changes.resize.Tie as tie
-use Rattle.store.proofs.changes.resize.Reads as reads
-use Rattle.store.proofs.changes.resize.Lts as lts
-use Rattle.meaning.proofs.edition_one.Reads as edition-one-reads
-use Rattle.sizing.proofs.resize_call.Reads as resize-call-reads
 
--- src/changes.rt:78:9
 edition-one-requires : tie.Need-edition-one-requires
 edition-one-requires c κs = search needs
 
--- src/changes.rt:90:9
 slice-aggregate-resize-call : tie.Need-slice-aggregate-resize-call
 slice-aggregate-resize-call c = search needs
 
--- src/changes.rt:91:9
 slice-aggregate-resize-call-2 : tie.Need-slice-aggregate-resize-call-2
 slice-aggregate-resize-call-2 c = search needs
 
--- src/changes.rt:92:9
 slice-aggregate-resize-call-3 : tie.Need-slice-aggregate-resize-call-3
 slice-aggregate-resize-call-3 c = search needs
 
--- src/changes.rt:93:9
 slice-aggregate-resize-call-4 : tie.Need-slice-aggregate-resize-call-4
 slice-aggregate-resize-call-4 c = search needs
 
--- src/changes.rt:94:9
 slice-aggregate-resize-call-5 : tie.Need-slice-aggregate-resize-call-5
 slice-aggregate-resize-call-5 c = search needs
 
--- src/changes.rt:95:9
 slice-aggregate-resize-call-6 : tie.Need-slice-aggregate-resize-call-6
 slice-aggregate-resize-call-6 c = search needs
 
--- src/changes.rt:96:9
 slice-aggregate-resize-call-7 : tie.Need-slice-aggregate-resize-call-7
 slice-aggregate-resize-call-7 c = search needs
 
--- src/changes.rt:86:5
 resize-call-requires : tie.Need-resize-call-requires
 resize-call-requires c κs = (search one-here, (search rows-here, search drafts-here))
 
--- src/changes.rt:75:1
 same-length : tie.Need-same-length
 same-length c = search needs
 
--- src/changes.rt:75:1
 same-length-2 : tie.Need-same-length-2
 same-length-2 c = search needs
 
--- src/changes.rt:75:1
 returns : tie.Need-returns
 returns c = search resize-one
 
