@@ -1,4 +1,4 @@
-// Where a leaf's data bytes lie in the pool, for any edition.
+// Where a leaf's data bytes lie in the pool, and the part that shows them, for any edition.
 use gate::Opened;
 use meaning::Edition;
 use meaning::Leaf;
@@ -8,7 +8,7 @@ ghost use Prim.Native.Nat.{_*_, _≤_};
 ghost use lib.ListN.{length, take, replicate};
 ghost use Rattle.meaning.specs.Edition.{Proper};
 ghost use Rattle.meaning.specs.Calls.{showIn, showCall};
-ghost use Rattle.meaning.specs.Answers.{leafAnswer};
+ghost use Rattle.meaning.specs.Answers.{leafAnswer, shownPart, shownNumber, shownSlot};
 ghost use Rattle.gate.specs.Gate.{Whole};
 ghost use Rattle.locating.specs.Placing.{Below, Lies, showSpelt};
 
@@ -80,6 +80,42 @@ pub fn find_leaf_call(
                 root,
                 i,
             )
+        }
+    }
+}
+
+// The whole call: a leaf's data bytes as they lie in the pool. Number and slot are those of a refusal, which shows an empty part; 0 and no slot
+// otherwise.
+pub fn show_call<'a>(
+    e: Edition,
+    pool: &'a [u8],
+    records: &[u8],
+    seen: &mut [u8],
+    row: &mut [u32],
+    root: u64,
+    i: u64,
+    number: &mut u64,
+    slot: &mut u64,
+) -> &'a [u8]
+    requires { ⌜ Proper e ⌝ }
+    requires { ⌜ (now seen ≡ replicate (e .most) 0) × (length (now row) ≡ e .most) ⌝ }
+    ensures { λ r. ⌜ now r ≡ shownPart e (now (pool .entry)) (showCall e (now (pool .entry)) (now (records .entry)) root i) ⌝ }
+    ensures { λ _. ⌜ now (number .exit) ≡ shownNumber (showCall e (now (pool .entry)) (now (records .entry)) root i) ⌝ }
+    ensures { λ _. ⌜ now (slot .exit) ≡ shownSlot (showCall e (now (pool .entry)) (now (records .entry)) root i) ⌝ }
+{
+    let found = find_leaf_call(e, pool, records, seen, row, root, i);
+    match found {
+        Leaf::At(start, count) => {
+            *number = 0;
+            *slot = 0xFFFF_FFFF_FFFF_FFFF;
+            let end = start + count;
+            &pool[start..end]
+        }
+        Leaf::Refused(r) => {
+            let named = r.named;
+            *number = r.number;
+            *slot = answers::slot_number(named);
+            &pool[0..0]
         }
     }
 }

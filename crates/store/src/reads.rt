@@ -54,21 +54,20 @@ pub fn show<'a>(
     ensures { λ _. ⌜ now (number .exit) ≡ shownNumber (showCall one (now (pool .entry)) (now (records .entry)) root leaf) ⌝ }
     ensures { λ _. ⌜ now (slot .exit) ≡ shownSlot (showCall one (now (pool .entry)) (now (records .entry)) root leaf) ⌝ }
 {
-    let found = find_leaf(pool, records, root, leaf);
-    match found {
-        Leaf::At(start, count) => {
-            *number = 0;
-            *slot = 0xFFFF_FFFF_FFFF_FFFF;
-            let end = start + count;
-            &pool[start..end]
-        }
-        Leaf::Refused(r) => {
-            let named = r.named;
-            *number = r.number;
-            *slot = answers::slot_number(named);
-            &pool[0..0]
-        }
-    }
+    let e = meaning::edition_one();
+    let mut seen = [0u8; 1024];
+    let mut row = [0u32; 1024];
+    locating::show_call(
+        e,
+        pool,
+        records,
+        &mut seen,
+        &mut row,
+        root,
+        leaf,
+        number,
+        slot,
+    )
 }
 
 // The count of live slots, if the whole pool is sound.

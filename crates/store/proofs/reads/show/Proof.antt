@@ -1,62 +1,31 @@
--- A place becomes a part of the pool, a refusal an empty part and its two numbers.
-use Rattle.store.proofs.Answers.{placed-within, placed-fits, shown-part, shown-nothing-refused, shown-nowhere, shown-empty, shown-number, shown-slot}
+-- Show of any edition, in edition one.
+use Rattle.store.proofs.Opening.{one-here, flags-here, long-here}
+use Rattle.store.proofs.Answers.{part-one, number-one, slot-one}
 use borrow.Author.Needs.{needs}
 use Rattle.store.proofs.reads.show.Statement.{statement}
 use Rattle.store.proofs.reads.show.Tie as tie
 
-find-leaf-requires : tie.Need-find-leaf-requires
-find-leaf-requires c κs = search needs
+edition-one-requires : tie.Need-edition-one-requires
+edition-one-requires c κs = search needs
 
-enum-known-found : tie.Need-enum-known-found
-enum-known-found c = search needs
+slice-aggregate-show-call : tie.Need-slice-aggregate-show-call
+slice-aggregate-show-call c = search needs
 
-add-end : tie.Need-add-end
-add-end c = search placed-fits
+slice-aggregate-show-call-2 : tie.Need-slice-aggregate-show-call-2
+slice-aggregate-show-call-2 c = search needs
 
-sub-result : tie.Need-sub-result
-sub-result c = search needs
-
-part-result-start : tie.Need-part-result-start
-part-result-start c = search needs
-
-part-result-end : tie.Need-part-result-end
-part-result-end c = search placed-within
-
-enum-known-found-2 : tie.Need-enum-known-found-2
-enum-known-found-2 c = search needs
-
-slot-number-requires : tie.Need-slot-number-requires
-slot-number-requires c κs = search needs
-
-sub-result-2 : tie.Need-sub-result-2
-sub-result-2 c = search needs
-
-part-result-start-2 : tie.Need-part-result-start-2
-part-result-start-2 c = search needs
-
-part-result-end-2 : tie.Need-part-result-end-2
-part-result-end-2 c = search needs
+show-call-requires : tie.Need-show-call-requires
+show-call-requires c κs = (search one-here, (search flags-here, search long-here))
 
 returns : tie.Need-returns
-returns c = (search shown-part, (search shown-nothing-refused, search shown-nowhere))
-
-returns-2 : tie.Need-returns-2
-returns-2 c = (search shown-empty, (search shown-number, search shown-slot))
+returns c = (search part-one, (search number-one, search slot-one))
 
 pub show-spec : {M : Type 1} → statement M
 show-spec =
     tie.close
     (tie.spec
-    find-leaf-requires
-    enum-known-found
-    add-end
-    sub-result
-    part-result-start
-    part-result-end
-    enum-known-found-2
-    slot-number-requires
-    sub-result-2
-    part-result-start-2
-    part-result-end-2
-    returns
-    returns-2)
+    edition-one-requires
+    slice-aggregate-show-call
+    slice-aggregate-show-call-2
+    show-call-requires
+    returns)
