@@ -38,7 +38,7 @@ fn plan_kept(
     ensures { λ r. ⌜ ((R : List ℕ) (s : ℕ) → turned e R s r (now (payload .exit)) ≡ renewal e R s (now (old .entry)) (record { height = h; row = cutRow e (c .length) h first (rowOf h (now (row .entry))) })) ⌝ }
     ensures { λ r. ⌜ ((v : ℕ) → v < lastVersion → Rises r v) ⌝ }
 {
-    let d = drawing::draw_cut(e, c.length, c.leaves, row, payload, h, first);
+    let d = trimming::draw_cut(e, c.length, c.leaves, row, payload, h, first);
     turn::renewed(old, d.height, d.count)
 }
 

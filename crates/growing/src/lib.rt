@@ -67,7 +67,7 @@ fn plan_old(
     if is_settled(e, g.length, block, h, first) {
         return Turn::Stays;
     }
-    let d = drawing::draw_grown(e, g, free, block, payload, h, first);
+    let d = extending::draw_grown(e, g, free, block, payload, h, first);
     turn::renewed(block, d.height, d.count)
 }
 

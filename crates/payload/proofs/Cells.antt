@@ -1,18 +1,35 @@
--- Cells as code draws them: a block whose payload is padded is the block of the used payload, and a block's own payload gives its row's bytes, whole
--- or cut.
-use mathlib.Core.Path.{_≡_, ap, _∙_}
+-- Cells as code draws them: a row's bytes with zeros after are the payload of its cell, a block whose payload is padded is the block of the used
+-- payload, and a block's own payload gives its row's bytes, whole or cut.
+use mathlib.Core.Path.{_≡_, refl, ap, _∙_}
 use mathlib.Core.List.{List, [], _∷_, _++_, map}
 use Prim.Native.Nat.{ℕ, zero, suc, _+_, _*_, _≤_, min}
+use native.Mathlib.Numerals.{add-one}
 use native.Mathlib.Omega.{arith}
 use lib.ListN.{length, take, drop, length-drop}
 use Rattle.meaning.specs.declared.Edition.{Edition}
 use Rattle.meaning.specs.Lists.{part, joined, bytes, number, padded, fours}
 use Rattle.meaning.specs.Edition.{Proper}
 use Rattle.meaning.specs.Bytes.{Cell, rowBytes, header, blockBytes, encoded, countOf, dataOf, childrenOf}
-use Rattle.laws.proofs.Codec.{padded-length, header-length, drop-small, fours-written}
+use Rattle.meaning.specs.Shape.{most}
+use Rattle.meaning.specs.Walk.{used}
+use Rattle.laws.proofs.Codec.{padded-length, header-length, drop-small, fours-written, rowOf, row-count}
 use Rattle.payload.specs.declared.Drawn.{Drawn}
 use Rattle.payload.specs.Draws.{Draws, OfBytes}
-use Rattle.payload.proofs.Rows.{padded-twice}
+use Rattle.payload.proofs.Rows.{spelled-length, padded-twice}
+
+module _ (e : Edition) (p : Proper e) where
+  -- a row of children, one higher than h
+  pub drawn-inner : (h n : ℕ) (row x : List ℕ) → n ≡ length row → n ≤ e .fan → x ≡ padded (e .leaf) (joined (map (bytes 4) row))
+      → Draws e (record { height = suc h; row = row }) (record { height = h + 1; count = n }) x
+  unfolding rowBytes
+  drawn-inner h n row x many fits is =
+      record { height = add-one h; count = many; payload = is; fits = omega (arith, spelled-length row, p .fills) }
+
+  -- a leaf's bytes
+  pub drawn-leaf : (n : ℕ) (row x : List ℕ) → n ≡ length row → n ≤ e .leaf → x ≡ padded (e .leaf) row
+      → Draws e (record { height = 0; row = row }) (record { height = 0; count = n }) x
+  unfolding rowBytes
+  drawn-leaf n row x many fits is = record { height = refl; count = many; payload = is; fits = omega arith }
 
 -- what is drawn is the cell's block, in any slot and at any version
 pub draws-block : (e : Edition) → Proper e → (c : Cell) (d : Drawn) (x : List ℕ) → Draws e c d x → (s v : ℕ)
@@ -48,6 +65,11 @@ take-front (suc n) (suc k) (x ∷ l) =
 
 -- a block's payload, read as a row of height h
 module _ (b : List ℕ) where
+  -- an inner block has as many children as its count says
+  pub children-count : 16 + 4 * countOf b ≤ length b → length (childrenOf b) ≡ countOf b
+  unfolding rowOf used
+  children-count k = row-count b 1 k
+
   -- of an inner block
   pub payload-inner : OfBytes b → 16 + 4 * countOf b ≤ length b → joined (map (bytes 4) (childrenOf b)) ≡ part 16 (4 * countOf b) b
   unfolding childrenOf part
@@ -65,3 +87,9 @@ module _ (b : List ℕ) where
   pub cut-leaf : (n : ℕ) → take n (dataOf b) ≡ part 16 (min (countOf b) n) b
   unfolding dataOf part
   cut-leaf n = take-front n (countOf b) (drop 16 b)
+
+-- an inner block has no more children than the fan
+pub inner-most : (e : Edition) (h c : ℕ) → (h ≡ 0 → ⊥) → c ≤ most e h → c ≤ e .fan
+unfolding most
+inner-most e zero c tall few = absurd (tall refl)
+inner-most e (suc h) c tall few = few

@@ -5,6 +5,8 @@ use Prim.Native.Nat.{ℕ, zero, suc, _+_, _-_, _*_, _/_, _%_, _^_, _≤_, _<_}
 use native.Mathlib.Nat.{pow-zero, pow-succ', one-le-pow, pow-le-pow-right, mul-le-mul-left, mul-le-mul-right}
 use native.Mathlib.Nat.{div-add-mod', mod-lt, min-eq-left, min-eq-right, min-zero}
 use native.Mathlib.Omega.{arith}
+use Rattle.meaning.specs.declared.Edition.{Edition}
+use Rattle.meaning.specs.Edition.{Proper}
 use Rattle.meaning.specs.Shape.{up}
 use Rattle.laws.proofs.Totals.{up-zero}
 use Rattle.growth.specs.Forms.{bulk, locate, inRow, lastChildren, room, space, seat, places}
@@ -26,6 +28,9 @@ pow-rises fan g h some low = pow-le-pow-right some low
 
 pub pow-down : (fan h : ℕ) → 1 ≤ fan → fan ^ (h - 1) ≤ fan ^ h
 pow-down fan h some = pow-rises fan (h - 1) h some (omega arith)
+
+pub low-power : (e : Edition) → Proper e → (h m : ℕ) → e .fan ^ h ≤ m → e .fan ^ (h - 1) ≤ m
+low-power e p h m small = omega (arith, pow-down (e .fan) h (omega (arith, p .two)))
 
 pub pow-some : (fan h : ℕ) → 1 ≤ fan → 1 ≤ fan ^ h
 pow-some fan h some = one-le-pow h fan some

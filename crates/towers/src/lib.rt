@@ -40,7 +40,7 @@ pub fn draw_top(
     ensures { λ r. ⌜ Draws e (topAt e (g .length) (g .leaves) (t .blocks) (now (free .entry)) (t .height) (rowOf (t .height) (now (kept .entry))) level) r (now (payload .exit)) ⌝ }
 {
     if level == t.height {
-        return drawing::draw_grown(e, g, free, kept, payload, level, 0);
+        return extending::draw_grown(e, g, free, kept, payload, level, 0);
     }
     let below = level - 1;
     let j = position::power(e.fan, below) - g.leaves;

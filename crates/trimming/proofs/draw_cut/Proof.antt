@@ -1,9 +1,11 @@
 -- A leaf or an inner block, one higher than the lower function's number.
 use Rattle.laws.proofs.Checks.{leaf-fits}
-use Rattle.drawing.proofs.Laws.{cut-lowest, cut-higher, low-power, inner-most}
+use Rattle.position.proofs.Laws.{low-power}
+use Rattle.payload.proofs.Cells.{inner-most}
+use Rattle.trimming.proofs.Laws.{cut-lowest, cut-higher}
 use borrow.Author.Needs.{needs}
-use Rattle.drawing.proofs.draw_cut.Statement.{statement}
-use Rattle.drawing.proofs.draw_cut.Tie as tie
+use Rattle.trimming.proofs.draw_cut.Statement.{statement}
+use Rattle.trimming.proofs.draw_cut.Tie as tie
 
 cut-leaf-requires : tie.Need-cut-leaf-requires
 cut-leaf-requires c κs = search leaf-fits

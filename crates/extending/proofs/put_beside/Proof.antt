@@ -1,8 +1,8 @@
 -- The numbers are those of the right edge, so the slots are those of the new row.
-use Rattle.drawing.proofs.Laws.{many-beside, put-beside}
+use Rattle.extending.proofs.Laws.{many-beside, put-beside}
 use borrow.Author.Needs.{needs}
-use Rattle.drawing.proofs.put_beside.Statement.{statement}
-use Rattle.drawing.proofs.put_beside.Tie as tie
+use Rattle.extending.proofs.put_beside.Statement.{statement}
+use Rattle.extending.proofs.put_beside.Tie as tie
 
 room-requires : tie.Need-room-requires
 room-requires c κs = search needs

@@ -1,8 +1,8 @@
 -- The kept bytes are those of the cut row.
-use Rattle.drawing.proofs.Laws.{cut-leaf}
+use Rattle.trimming.proofs.Laws.{cut-leaf}
 use borrow.Author.Needs.{needs}
-use Rattle.drawing.proofs.cut_leaf.Statement.{statement}
-use Rattle.drawing.proofs.cut_leaf.Tie as tie
+use Rattle.trimming.proofs.cut_leaf.Statement.{statement}
+use Rattle.trimming.proofs.cut_leaf.Tie as tie
 
 count-of-requires : tie.Need-count-of-requires
 count-of-requires c κs = search needs

@@ -1,8 +1,10 @@
 -- A leaf or an inner block, one higher than the lower function's number.
-use Rattle.drawing.proofs.Laws.{grown-lowest, grown-higher, low-power, inner-most, low-share}
+use Rattle.position.proofs.Laws.{low-power}
+use Rattle.payload.proofs.Cells.{inner-most}
+use Rattle.extending.proofs.Laws.{grown-lowest, grown-higher, low-share}
 use borrow.Author.Needs.{needs}
-use Rattle.drawing.proofs.draw_grown.Statement.{statement}
-use Rattle.drawing.proofs.draw_grown.Tie as tie
+use Rattle.extending.proofs.draw_grown.Statement.{statement}
+use Rattle.extending.proofs.draw_grown.Tie as tie
 
 grown-leaf-requires : tie.Need-grown-leaf-requires
 grown-leaf-requires c κs = (search needs, ((search needs, search needs), (search needs, search low-share)))

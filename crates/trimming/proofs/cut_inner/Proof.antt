@@ -1,8 +1,8 @@
 -- The first slots of the payload are those of the cut row.
-use Rattle.drawing.proofs.Laws.{cut-inner}
+use Rattle.trimming.proofs.Laws.{cut-inner}
 use borrow.Author.Needs.{needs}
-use Rattle.drawing.proofs.cut_inner.Statement.{statement}
-use Rattle.drawing.proofs.cut_inner.Tie as tie
+use Rattle.trimming.proofs.cut_inner.Statement.{statement}
+use Rattle.trimming.proofs.cut_inner.Tie as tie
 
 count-of-requires : tie.Need-count-of-requires
 count-of-requires c κs = search needs

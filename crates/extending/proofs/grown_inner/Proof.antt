@@ -1,8 +1,8 @@
 -- The old slots are copied, and the new ones put behind them.
-use Rattle.drawing.proofs.Laws.{copied-long, grown-inner}
+use Rattle.extending.proofs.Laws.{copied-long, grown-inner}
 use borrow.Author.Needs.{needs}
-use Rattle.drawing.proofs.grown_inner.Statement.{statement}
-use Rattle.drawing.proofs.grown_inner.Tie as tie
+use Rattle.extending.proofs.grown_inner.Statement.{statement}
+use Rattle.extending.proofs.grown_inner.Tie as tie
 
 count-of-requires : tie.Need-count-of-requires
 count-of-requires c κs = search needs

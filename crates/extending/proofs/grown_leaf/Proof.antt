@@ -1,8 +1,8 @@
 -- The old bytes with zeros after are the grown row's.
-use Rattle.drawing.proofs.Laws.{grown-leaf}
+use Rattle.extending.proofs.Laws.{grown-leaf}
 use borrow.Author.Needs.{needs}
-use Rattle.drawing.proofs.grown_leaf.Statement.{statement}
-use Rattle.drawing.proofs.grown_leaf.Tie as tie
+use Rattle.extending.proofs.grown_leaf.Statement.{statement}
+use Rattle.extending.proofs.grown_leaf.Tie as tie
 
 share-of-requires : tie.Need-share-of-requires
 share-of-requires c κs = search needs
