@@ -33,7 +33,7 @@ fn write_all(
 {
     let mut i = 0;
     while i < n {
-        stretch::write_slot(e, pool, records, heights, firsts, src, offset, i);
+        patching::write_slot(e, pool, records, heights, firsts, src, offset, i);
         i += 1;
     }
 }

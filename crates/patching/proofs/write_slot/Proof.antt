@@ -1,8 +1,8 @@
 -- No stretch and nothing is stored; else the stored bytes are the planned block's and record's.
-use Rattle.stretch.proofs.Laws.{leaf-count, pool-stays, records-stay, store-room, store-source, store-young, pool-put, records-put}
+use Rattle.patching.proofs.Laws.{leaf-count, pool-stays, records-stay, store-room, store-source, store-young, pool-put, records-put}
 use borrow.Author.Needs.{needs}
-use Rattle.stretch.proofs.write_slot.Statement.{statement}
-use Rattle.stretch.proofs.write_slot.Tie as tie
+use Rattle.patching.proofs.write_slot.Statement.{statement}
+use Rattle.patching.proofs.write_slot.Tie as tie
 
 plan-slot-requires : tie.Need-plan-slot-requires
 plan-slot-requires c κs = (search needs, (search needs, search leaf-count))

@@ -1,8 +1,8 @@
 -- The version that was read is below the last, so one more fits.
-use Rattle.stretch.proofs.Laws.{version-fits, version-next}
+use Rattle.patching.proofs.Laws.{version-fits, version-next}
 use borrow.Author.Needs.{needs}
-use Rattle.stretch.proofs.next_version.Statement.{statement}
-use Rattle.stretch.proofs.next_version.Tie as tie
+use Rattle.patching.proofs.next_version.Statement.{statement}
+use Rattle.patching.proofs.next_version.Tie as tie
 
 record-of-requires : tie.Need-record-of-requires
 record-of-requires c κs = search needs

@@ -1,8 +1,8 @@
 -- The record's state is read, and the record built with it is stored.
-use Rattle.stretch.proofs.Laws.{record-raised}
+use Rattle.patching.proofs.Laws.{record-raised}
 use borrow.Author.Needs.{needs}
-use Rattle.stretch.proofs.raise_record.Statement.{statement}
-use Rattle.stretch.proofs.raise_record.Tie as tie
+use Rattle.patching.proofs.raise_record.Statement.{statement}
+use Rattle.patching.proofs.raise_record.Tie as tie
 
 record-of-requires : tie.Need-record-of-requires
 record-of-requires c κs = search needs

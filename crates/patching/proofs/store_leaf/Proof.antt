@@ -1,8 +1,8 @@
 -- Block and record are stored with the same version.
-use Rattle.stretch.proofs.Laws.{pool-stored, records-stored}
+use Rattle.patching.proofs.Laws.{pool-stored, records-stored}
 use borrow.Author.Needs.{needs}
-use Rattle.stretch.proofs.store_leaf.Statement.{statement}
-use Rattle.stretch.proofs.store_leaf.Tie as tie
+use Rattle.patching.proofs.store_leaf.Statement.{statement}
+use Rattle.patching.proofs.store_leaf.Tie as tie
 
 next-version-requires : tie.Need-next-version-requires
 next-version-requires c κs = search needs
