@@ -16,13 +16,13 @@ use Rattle.meaning.specs.Tree.{Blob, rootOf, slotsOf, lengthOf}
 use Rattle.meaning.specs.Calls.{live}
 use Rattle.meaning.specs.Run.{blocksOf}
 use Rattle.laws.proofs.Inversions.{never, by-test}
+use Rattle.laws.proofs.Codec.{state-known}
 use Rattle.resizing.proofs.Slots.{times, times-append, times-cons, slots-for}
 use Rattle.sound.proofs.Slots.{times-none, times-same, times-other, by-times, Each, each-first, each-rest, range-has}
 use Rattle.sound.proofs.Cells.{Every}
 use Rattle.sound.proofs.Blobs.{Lies}
 use Rattle.sound.proofs.Pools.{isHead, allSlots, all-none, all-cons, slots-root, Pool, all-within, all-live}
 use Rattle.sound.proofs.Replaced.{filter-same}
-use Rattle.sound.proofs.After.{sound-state}
 
 -- a test that passes one number more than another does
 filter-more : (p q : ℕ → Bool) (c from n : ℕ) → from ≤ c → c < from + n → p c ≡ false → q c ≡ true → ((s : ℕ) → (s ≡ c → ⊥) → q s ≡ p s)
@@ -140,7 +140,7 @@ pub live-count : (e : Edition) (N : ℕ) (P R : List ℕ) (bs : List Blob) → P
 unfolding live
 live-count e N P R bs q sound =
     ap length (filter-same (λ s. not (eqb (state R s) 0)) (isIn (allSlots bs)) 0 N
-    (λ s lo hi. live-in e N P R bs q s (omega arith) (sound-state R s (sound s (omega arith)))))
+    (λ s lo hi. live-in e N P R bs q s (omega arith) (state-known R s (sound s (omega arith)))))
     ∙ count-slots N (allSlots bs) (all-within e N P R bs (q .lie)) (q .once)
 
 -- blobs as a book has them: each one's root and length

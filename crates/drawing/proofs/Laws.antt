@@ -9,12 +9,12 @@ use Rattle.meaning.specs.declared.Edition.{Edition}
 use Rattle.meaning.specs.Lists.{joined, bytes, padded, pasted}
 use Rattle.meaning.specs.Edition.{Proper}
 use Rattle.meaning.specs.Resize.{share}
-use Rattle.laws.proofs.Codec.{padded-fits}
+use Rattle.laws.proofs.Codec.{fours-length, padded-fits}
 use Rattle.growth.specs.Forms.{past, every, bulk, places, newRow, freshCell, above, newBytes}
 use Rattle.growth.proofs.Steps.{every-length}
 use Rattle.payload.specs.declared.Drawn.{Drawn}
 use Rattle.payload.specs.Draws.{Draws}
-use Rattle.payload.proofs.Rows.{spelled-length, over-zeros, slots-more}
+use Rattle.payload.proofs.Rows.{over-zeros, slots-more}
 use Rattle.payload.proofs.Cells.{drawn-inner, drawn-leaf}
 
 -- a leaf's number of zeros, over zeros
@@ -31,7 +31,7 @@ pub slots-first : (m at : ℕ) (new : List ℕ) → at ≡ 0 → 4 * length new 
 slots-first m at new z h =
     let k : 4 * at ≡ 0 = omega arith in
     ap (λ (a : ℕ). pasted a (joined (map (bytes 4) new)) (replicate m 0)) k
-    ∙ over-zeros m (joined (map (bytes 4) new)) (omega (arith, spelled-length new))
+    ∙ over-zeros m (joined (map (bytes 4) new)) (omega (arith, fours-length new))
 
 module _ (e : Edition) (p : Proper e) where
   -- a new leaf

@@ -11,12 +11,12 @@ use Rattle.meaning.specs.Edition.{Proper}
 use Rattle.meaning.specs.Bytes.{countOf, dataOf, childrenOf}
 use Rattle.meaning.specs.Shape.{leavesFor}
 use Rattle.meaning.specs.Resize.{share}
-use Rattle.laws.proofs.Numbers.{part-length}
+use Rattle.laws.proofs.Numbers.{part-length, OfBytes}
 use Rattle.laws.proofs.Codec.{padded-length, rowOf}
 use Rattle.growth.specs.Forms.{every, bulk, places, room, space, newRow, newLeaves, grownRow}
 use Rattle.growth.proofs.Steps.{every-length}
 use Rattle.payload.specs.declared.Drawn.{Drawn}
-use Rattle.payload.specs.Draws.{Draws, OfBytes}
+use Rattle.payload.specs.Draws.{Draws}
 use Rattle.payload.proofs.Rows.{slots-more, padded-twice}
 use Rattle.payload.proofs.Cells.{drawn-inner, drawn-leaf, children-count, payload-inner}
 

@@ -10,12 +10,12 @@ use lib.Dec.{eqb, ltb}
 use lib.ListN.{length}
 use borrow.Author.Tests.{eq-eqb, ne-eqb, lt-ltb, le-leb, lt-leb}
 use Rattle.meaning.specs.declared.Edition.{Edition}
-use Rattle.meaning.specs.Lists.{pick, both, sameList}
+use Rattle.meaning.specs.Lists.{pick, both}
 use Rattle.meaning.specs.Edition.{Proper}
 use Rattle.meaning.specs.Bytes.{Cell, sameCell, state, usableSlot}
 use Rattle.meaning.specs.Tree.{Blob, rootOf, leavesOf, cellsOf, lengthOf, Held, nothing, just, held}
 use Rattle.meaning.specs.Change.{freed, renewed, changed}
-use Rattle.laws.proofs.Inversions.{by-test, both-true, true-both}
+use Rattle.laws.proofs.Inversions.{by-test, both-true, true-both, same-self}
 use Rattle.growth.specs.Sites.{Site, sitesOf, Sited, absent, at, sited, heldBy, same, rootRow}
 use Rattle.growth.specs.Cuts.{written, rewritten, shortened}
 use Rattle.growth.specs.Forms.{grownRow, grown, grownRoot, grownNew}
@@ -25,16 +25,10 @@ use Rattle.growth.proofs.Places.{root-site}
 use Rattle.growth.proofs.Usable.{usable-free}
 use Rattle.growth.proofs.Resized.{Standing}
 
--- a list is the same as itself
-same-list : (l : List ℕ) → sameList l l ≡ true
-unfolding sameList both
-same-list [] = refl
-same-list (x ∷ xs) = rw (eq-eqb x x refl) (same-list xs)
-
--- and so is a cell
+-- a cell is the same as itself
 same-cell : (c : Cell) → sameCell c c ≡ true
 unfolding sameCell both
-same-cell c = rw (eq-eqb (c .height) (c .height) refl) (same-list (c .row))
+same-cell c = rw (eq-eqb (c .height) (c .height) refl) (same-self (c .row))
 
 -- what is as it was does not change
 pub unchanged : (e : Edition) (R : List ℕ) (state s : ℕ) (v : Held) → changed e R state s v v ≡ []

@@ -3,7 +3,7 @@ use mathlib.Core.Path.{_≡_, refl, ap, _∙_}
 use mathlib.Core.Bool.{Bool, true, false}
 use mathlib.Core.List.{List, _++_, append-nil}
 use Prim.Native.Nat.{ℕ, zero, suc, _+_, _-_, _*_, _/_, _%_, _^_, _≤_, _<_, min}
-use native.Mathlib.Nat.{zero-min}
+use native.Mathlib.Nat.{zero-min, mul-le-mul-right}
 use native.Mathlib.Omega.{arith}
 use lib.Dec.{eqb}
 use lib.ListN.{length, getD, replicate, length-append, List·getD-append}
@@ -35,6 +35,20 @@ every-at free size (suc c) k zero less = let z : k + 0 * size ≡ k = omega arit
 every-at free size (suc c) k (suc i) less =
     let z : k + suc i * size ≡ k + size + i * size = omega arith in
     rw z (every-at free size c (k + size) i (omega arith))
+
+-- a higher full subtree has more blocks
+bulk-more : (fan h : ℕ) → 1 ≤ fan → bulk fan h < bulk fan (suc h)
+unfolding bulk
+bulk-more fan h some = omega (arith, mul-le-mul-right (bulk fan h) some)
+
+bulk-above : (fan g d : ℕ) → 1 ≤ fan → bulk fan g ≤ bulk fan (d + g)
+bulk-above fan g zero some = let z : 0 + g ≡ g = omega arith in rw z (omega arith)
+bulk-above fan g (suc d) some =
+    let z : suc d + g ≡ suc (d + g) = omega arith in
+    rw z (omega (arith, bulk-above fan g d some, bulk-more fan (d + g) some))
+
+pub bulk-rises : (fan g h : ℕ) → 1 ≤ fan → g ≤ h → bulk fan g ≤ bulk fan h
+bulk-rises fan g h some low = let z : h ≡ (h - g) + g = omega arith in rw z (bulk-above fan g (h - g) some)
 
 module _ (fan : ℕ) where
   -- the place of a block in a new subtree: the top, a leaf, or in the child that p falls into

@@ -3,7 +3,7 @@ use mathlib.Core.Path.{_≡_, refl, ap, _∙_}
 use mathlib.Core.Bool.{Bool, true, false}
 use mathlib.Core.List.{List, [], _∷_, _++_}
 use Prim.Native.Nat.{ℕ, zero, suc, _+_, _-_, _≤_, _<_}
-use native.Mathlib.Nat.{add-zero, zero-add}
+use native.Mathlib.Nat.{zero-add}
 use native.Mathlib.Omega.{arith}
 use lib.ListN.{length, getD, length-append}
 use lib.Seq.{getD-append-seam}
@@ -11,6 +11,7 @@ use Rattle.growth.specs.Forms.{past}
 use lib.Dec.{eqb, ltb}
 use borrow.Author.Tests.{eqb-true}
 use Rattle.laws.proofs.Inversions.{both-true}
+use Rattle.laws.proofs.Roots.{filter-append, range-append}
 use Rattle.meaning.specs.Bytes.{state, recorded, lastVersion, usableSlot}
 use Rattle.meaning.specs.Lists.{pick, range, filter}
 use Rattle.growth.proofs.After.{Apart}
@@ -21,32 +22,12 @@ unfolding usableSlot
 usable-free R s good = eqb-true (state R s) 0 (both-true (eqb (state R s) 0) (ltb (recorded R s) lastVersion) good .0)
 
 module _ (p : ℕ → Bool) where
-  -- a filter of two lists
-  filter-append : (a b : List ℕ) → filter p (a ++ b) ≡ filter p a ++ filter p b
-  unfolding filter pick
-  filter-append [] b = refl
-  filter-append (x ∷ xs) b = go (p x) (filter-append xs b)
-    where
-      go : (c : Bool) → filter p (xs ++ b) ≡ filter p xs ++ filter p b
-          → pick c (x ∷ filter p (xs ++ b)) (filter p (xs ++ b)) ≡ pick c (x ∷ filter p xs) (filter p xs) ++ filter p b
-      go true e = ap {B = List ℕ} (λ l. x ∷ l) e
-      go false e = e
-
-  -- a range in two parts
-  range-append : (a n m : ℕ) → range a (n + m) ≡ range a n ++ range (a + n) m
-  unfolding range
-  range-append a zero m = rw (zero-add m, add-zero a)
-  range-append a (suc n) m =
-      let z : suc n + m ≡ suc (n + m) = omega arith in
-      let y : a + suc n ≡ suc a + n = omega arith in
-      rw (z, y) (ap {B = List ℕ} (λ l. a ∷ l) (range-append (suc a) n m))
-
   -- a slot that may be taken is the free slot whose number is the count of those below it
   around : (s N : ℕ) → s < N → p s ≡ true → filter p (range 0 N) ≡ filter p (range 0 s) ++ s ∷ filter p (range (suc s) (N - suc s))
   unfolding filter pick range
   around s N less good =
       let z : N ≡ s + suc (N - suc s) = omega arith in
-      ap (λ n. filter p (range 0 n)) z ∙ ap (filter p) (range-append 0 s (suc (N - suc s))) ∙ filter-append (range 0 s) _ ∙ rw (zero-add s, good)
+      ap (λ n. filter p (range 0 n)) z ∙ ap (filter p) (range-append 0 s (suc (N - suc s))) ∙ filter-append p (range 0 s) _ ∙ rw (zero-add s, good)
 
   pub counter : (s N : ℕ) → s < N → p s ≡ true → getD (filter p (range 0 N)) (length (filter p (range 0 s))) past ≡ s
   counter s N less good = rw (around s N less good) (getD-append-seam (filter p (range 0 s)) s _ past)

@@ -11,10 +11,11 @@ use Rattle.meaning.specs.declared.Edition.{Edition}
 use Rattle.meaning.specs.Lists.{part, joined}
 use Rattle.meaning.specs.Edition.{Proper}
 use Rattle.meaning.specs.Bytes.{Cell}
-use Rattle.meaning.specs.Tree.{Tree, Blob, slotOf, content, leaves, cells, cellsOf, slotsOf, held}
+use Rattle.meaning.specs.Tree.{Tree, Blob, content, leaves, cells, cellsOf, slotsOf, held}
 use Rattle.meaning.specs.Shape.{InRow, ShapedTree, Shaped}
 use Rattle.meaning.specs.Resize.{along, refill, refilled}
 use Rattle.laws.proofs.Shapes.{OfTree, tree-counted}
+use Rattle.resizing.proofs.Refilled.{along-slots}
 use Rattle.growth.specs.Sites.{counting, sites, sitesOf, sited, entry, ruled, heldBy, Once}
 use Rattle.growth.specs.Cuts.{rewritten, written}
 use Rattle.growth.proofs.Sites.{ruled-append, held-ruled, site-slots}
@@ -33,18 +34,6 @@ pub refill-left : (h : ℕ) (d : List ℕ) (t : Tree h) → refill h d t .1 ≡ 
 unfolding refill content
 refill-left zero d t = refl
 refill-left (suc h) d t = row-left h (refill-left h) d (t .1)
-
--- no slot changes
-refill-slot : (h : ℕ) (d : List ℕ) (t : Tree h) → slotOf h (refill h d t .0) ≡ slotOf h t
-unfolding refill slotOf
-refill-slot zero d t = refl
-refill-slot (suc h) d t = refl
-
--- nor a row's
-row-slots : (h : ℕ) (d : List ℕ) (ts : List (Tree h)) → map (slotOf h) (along (refill h) d ts .0) ≡ map (slotOf h) ts
-unfolding along
-row-slots h d [] = refl
-row-slots h d (t ∷ ts) = ap₂ _∷_ (refill-slot h d t) (row-slots h (refill h d t .1) ts)
 
 module _ (e : Edition) (some : 1 ≤ e .leaf) (two : 2 ≤ e .fan) (d : List ℕ) where
   -- trees side by side, the first of which begins with leaf i
@@ -75,7 +64,7 @@ module _ (e : Edition) (some : 1 ≤ e .leaf) (two : 2 ≤ e .fan) (d : List ℕ
   tree-written zero i root edge t s = refl
   tree-written (suc h) i root edge t s =
       ap₂ (λ (row : List ℕ) (rest : List (ℕ × Cell)). (t .0, record { height = suc h; row = row }) ∷ rest)
-      (row-slots h (drop (e .leaf * i) d) (t .1)) (row-written h (tree-written h) i edge (t .1) (s .2))
+      (along-slots h (drop (e .leaf * i) d) (t .1)) (row-written h (tree-written h) i edge (t .1) (s .2))
 
 -- write: the leaf with number i holds its stretch, from leaf * i on, and every other block what it held
 pub written-held : (e : Edition) → Proper e → (b : Blob) → Shaped e b → Once (slotsOf b) → (d : List ℕ) (s : ℕ)

@@ -18,10 +18,10 @@ use Rattle.meaning.specs.Walk.{Found, fault, fine, poolCheck}
 use Rattle.meaning.specs.Change.{Change}
 use Rattle.meaning.specs.Calls.{Outcome, done, afterCheck, opened, live, auditOn, auditIn, auditCall}
 use Rattle.laws.proofs.Inversions.{by-test, zeros-list}
+use Rattle.laws.proofs.Codec.{state-known}
 use Rattle.laws.proofs.Walked.{block-length}
 use Rattle.history.proofs.Reached.{pool-reach}
 use Rattle.history.proofs.Local.{Same, Told}
-use Rattle.history.proofs.Stepped.{state-known}
 use Rattle.history.proofs.CallSteps.{slots-in}
 use Rattle.history.proofs.Started.{Sized, other-sized}
 use Rattle.history.proofs.Answered.{opened-passes}

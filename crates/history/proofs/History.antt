@@ -15,11 +15,11 @@ use Rattle.meaning.specs.Bytes.{block, recordAt, recordOf, state, recorded}
 use Rattle.meaning.specs.Walk.{flaw}
 use Rattle.meaning.specs.Change.{Store}
 use Rattle.meaning.specs.Run.{Call, perform, moments}
-use Rattle.laws.proofs.Codec.{blank-flaw}
+use Rattle.laws.proofs.Codec.{blank-flaw, state-of, recorded-of}
 use Rattle.laws.proofs.Inversions.{by-test}
 use Rattle.laws.proofs.Walked.{mem-at}
 use Rattle.history.proofs.Slots.{Each, each-mem}
-use Rattle.history.proofs.Stepped.{Risen, Stepped, same, risen, gone, Settled, state-same, recorded-same, state-of, recorded-of}
+use Rattle.history.proofs.Stepped.{Risen, Stepped, same, risen, gone, Settled, state-same, recorded-same}
 use Rattle.history.proofs.CallSteps.{call-steps}
 use Rattle.history.proofs.Carried.{Carries, encoded-carries, moved-flaw, older-flaw, newer-flaw}
 

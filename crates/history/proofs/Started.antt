@@ -18,10 +18,10 @@ use Rattle.meaning.specs.Walk.{flaw}
 use Rattle.meaning.specs.Change.{Store}
 use Rattle.meaning.specs.Calls.{slotsIn, sized, freeRecords, wiped, afterWipe}
 use Rattle.meaning.specs.Run.{Call, perform, run}
-use Rattle.laws.proofs.Codec.{record-length, record-kept, blank-flaw}
+use Rattle.laws.proofs.Codec.{record-length, record-kept, state-of, recorded-of, blank-flaw}
 use Rattle.laws.proofs.Inversions.{by-test, both-true, true-both, same-list}
 use Rattle.history.proofs.Local.{unlike, Told}
-use Rattle.history.proofs.Stepped.{Next, Settled, state-of, recorded-of}
+use Rattle.history.proofs.Stepped.{Next, Settled}
 use Rattle.history.proofs.CallSteps.{slots-in, call-steps}
 use Rattle.history.proofs.History.{stateIn, versionIn, blockIn, Kept, free, Misplaced, misplaced-some}
 use Rattle.history.proofs.History.{determined, never-falls, settled-at, free-blank, misplaced}

@@ -11,8 +11,8 @@ use Rattle.meaning.specs.Lists.{pick, range}
 use Rattle.meaning.specs.Bytes.{Cell, sameCell, encoded, block, recordOf, recordAt, state, recorded, soundRecord, lastVersion}
 use Rattle.meaning.specs.Tree.{Held, nothing, just}
 use Rattle.meaning.specs.Change.{Store, changedBy, freed, renewed, changed, changes}
-use Rattle.laws.proofs.Codec.{state-read, recorded-read, record-kept}
-use Rattle.laws.proofs.Inversions.{by-test, sound-record}
+use Rattle.laws.proofs.Codec.{recorded-of, state-known, record-kept}
+use Rattle.laws.proofs.Inversions.{by-test}
 use Rattle.history.proofs.Puts.{settled, blocks-wide, lines-wide, run-length, run-at}
 
 -- slot x has risen from store S to S′: it is live and holds a cell, at the version after its recorded one, in block and record alike
@@ -51,21 +51,6 @@ state-same R R′ x p = rw p
 pub recorded-same : (R R′ : List ℕ) (x : ℕ) → recordAt R′ x ≡ recordAt R x → recorded R′ x ≡ recorded R x
 unfolding recorded
 recorded-same R R′ x p = rw p
-
--- the state of a written record
-pub state-of : (R : List ℕ) (x st v : ℕ) → recordAt R x ≡ recordOf st v → state R x ≡ st
-unfolding state
-state-of R x st v p = rw p (state-read st v)
-
--- its version
-pub recorded-of : (R : List ℕ) (x st v : ℕ) → recordAt R x ≡ recordOf st v → v < 2 ^ 64 → recorded R x ≡ v
-unfolding recorded
-recorded-of R x st v p h = rw p (recorded-read st v h)
-
--- a sound record's state is one of the three
-pub state-known : (R : List ℕ) (x : ℕ) → soundRecord (recordAt R x) ≡ true → state R x ≤ 2
-unfolding state
-state-known R x s = sound-record (recordAt R x) s .state
 
 -- what is asked of the blocks before and after, where a newly taken slot gets the state taken
 pub record Ready (N : ℕ) (R : List ℕ) (taken : ℕ) (old new : ℕ → Held) : Type 0 where

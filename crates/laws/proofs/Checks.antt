@@ -116,6 +116,9 @@ leaf-fits e p h c z k = omega (arith, used-leaf h c z, used-fits e p h c k)
 pub inner-fits : (e : Edition) → Proper e → (h c : ℕ) → (h ≡ 0 → ⊥) → c ≤ most e h → 4 * c ≤ e .leaf
 inner-fits e p h c n k = omega (arith, used-inner h c n, used-fits e p h c k)
 
+pub inner-most : (e : Edition) (h c : ℕ) → (h ≡ 0 → ⊥) → c ≤ most e h → c ≤ e .fan
+inner-most e h c n k = omega (arith, most-inner e h n)
+
 -- check 3, as far as the code has come
 module _ (e : Edition) (b : List ℕ) (h : ℕ) (root edge : Bool) (f : ℕ) (ef : f ≡ heightOf b) where
   pub formed-height : (f ≡ h → ⊥) → false ≡ formed e h root edge b

@@ -13,7 +13,7 @@ use Rattle.meaning.specs.declared.Checked.the-variants.{Passed, Faulty}
 use Rattle.meaning.specs.Lists.{pick, part, joined, number, bytes, padded, fours, zeros, sameList}
 use Rattle.meaning.specs.Edition.{Proper}
 use Rattle.meaning.specs.Bytes.{Cell, rowBytes, header, blockBytes, encoded, heightOf, countOf, ownSlot, versionOf, dataOf, childrenOf}
-use Rattle.meaning.specs.Bytes.{recordWith, recordOf, stateOf, recordedOf, soundRecord}
+use Rattle.meaning.specs.Bytes.{recordWith, recordOf, stateOf, recordedOf, recordAt, state, recorded, soundRecord}
 use Rattle.meaning.specs.Shape.{least, most}
 use Rattle.meaning.specs.Refusals.{at}
 use Rattle.meaning.specs.Walk.{flaw, used, blockCheck}
@@ -51,7 +51,7 @@ unfolding header
 header-length e h n s v m = simp (length-append, bytes-length, m)
 
 -- slot numbers have four bytes each
-fours-length : (row : List ℕ) → length (joined (map (bytes 4) row)) ≡ 4 * length row
+pub fours-length : (row : List ℕ) → length (joined (map (bytes 4) row)) ≡ 4 * length row
 unfolding joined
 fours-length [] = refl
 fours-length (x ∷ row) = simp (length-append, bytes-length) (omega (arith, fours-length row))
@@ -394,3 +394,18 @@ record-back r long small sound =
     sym (bytes-of 8 (number (take 8 (drop 4 r))) (drop 4 r) n (ap number (sym (take-all 8 (drop 4 r) (omega arith)))) (drop-small 4 r small)) in
     sym (take-append-drop 2 r) ∙ ap (λ (l : List ℕ). take 2 r ++ l) (drop-two r (omega arith))
     ∙ (λ i. f .mark i ++ (getD r 2 0 ∷ f .fourth i ∷ w i))
+
+-- the state of a written record
+pub state-of : (R : List ℕ) (x st v : ℕ) → recordAt R x ≡ recordOf st v → state R x ≡ st
+unfolding state
+state-of R x st v p = rw p (state-read st v)
+
+-- its version
+pub recorded-of : (R : List ℕ) (x st v : ℕ) → recordAt R x ≡ recordOf st v → v < 2 ^ 64 → recorded R x ≡ v
+unfolding recorded
+recorded-of R x st v p h = rw p (recorded-read st v h)
+
+-- a sound record's state is one of the three
+pub state-known : (R : List ℕ) (x : ℕ) → soundRecord (recordAt R x) ≡ true → state R x ≤ 2
+unfolding state
+state-known R x s = sound-record (recordAt R x) s .state

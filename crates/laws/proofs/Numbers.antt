@@ -100,6 +100,10 @@ number-bytes (suc k) n h =
     let small : n / 256 < 256 ^ k = div-lt-iff-lt-mul {k = 256} {x = n} {y = 256 ^ k} (omega arith) .1 (omega arith) in
     omega (arith, number-bytes k (n / 256) small)
 
+-- a list of bytes
+pub record OfBytes (l : List ℕ) : Type 0 where
+  pub small : (i : ℕ) → getD l i 0 < 256
+
 -- every byte of a number's bytes is below 256
 pub bytes-small : (k n i : ℕ) → getD (bytes k n) i 0 < 256
 unfolding bytes

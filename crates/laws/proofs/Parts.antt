@@ -10,7 +10,7 @@ use native.Mathlib.Numerals.{add-one}
 use native.Mathlib.Omega.{arith}
 use borrow.Author.Tests.{eq-eqb, ne-eqb}
 use borrow.Rule.Slice.PartMut.{putMid}
-use lib.ListN.{length, getD, take, drop, set, replicate, length-append, length-drop, length-replicate, drop-of-length-le, replicate-append-replicate}
+use lib.ListN.{length, getD, take, drop, set, replicate, length-append, length-drop, length-replicate, take-append-drop, drop-of-length-le, replicate-append-replicate}
 use lib.Seq.{take-suc-set, take-all, take-append-le, take-take, take-at, drop-at, drop-drop, drop-cons, length-take-le}
 use lib.Dec.{eqb}
 use Rattle.meaning.specs.Lists.{both, all, part, pasted, sameList, bytes, zeros}
@@ -27,6 +27,12 @@ unfolding pasted
 lent-back a n l ys new e h =
     let k : a + n - a ≡ length new = omega arith in
     rw (e, k, drop-drop)
+
+-- nothing pasted changes nothing
+pub pasted-none : (a : ℕ) (new l : List ℕ) → length new ≡ 0 → pasted a new l ≡ l
+unfolding pasted
+pasted-none a [] l h = let z : a + 0 ≡ a = omega arith in rw z (take-append-drop a l)
+pasted-none a (x ∷ new) l h = absurd (omega arith)
 
 -- a lent part from a up to a + n is n long
 pub lent-length : {A : Type 0} (a n : ℕ) (l : List A) → a + n ≤ length l → length (take (a + n - a) (drop a l)) ≡ n

@@ -4,8 +4,9 @@
 use mathlib.Core.Path.{_≡_, refl, ap, ap₂, _∙_, sym}
 use mathlib.Core.Logic.{_⊎_, inl, inr}
 use mathlib.Core.Bool.{Bool, true, false}
-use mathlib.Core.List.{List, [], _∷_, map, List·Memᴰ, List·Memᴰ·head, List·Memᴰ·tail, List·Memᴰ·not-nil, List·Memᴰ·cases-cons}
+use mathlib.Core.List.{List, [], _∷_, _++_, map, List·Memᴰ, List·Memᴰ·head, List·Memᴰ·tail, List·Memᴰ·not-nil, List·Memᴰ·cases-cons}
 use Prim.Native.Nat.{ℕ, zero, suc, _+_, _≤_, _<_, min}
+use native.Mathlib.Nat.{add-zero, add-suc, zero-add, suc-add}
 use native.Mathlib.Omega.{arith}
 use borrow.Author.Tests.{eqb-true, eqb-false, eq-eqb}
 use lib.Dec.{eqb}
@@ -36,6 +37,19 @@ unfolding filter pick
 in-filter p h (List·Memᴰ·head {x = y} {xs = l} q) = rw (sym (ap p q) ∙ h) (List·Memᴰ·head q)
 in-filter p h (List·Memᴰ·tail {x = y} {xs = l} m) =
     by-test (p y) (λ t. rw t (List·Memᴰ·tail (in-filter p h m))) (λ t. rw t (in-filter p h m))
+
+-- a filtered list is the filtered parts
+pub filter-append : {A : Type 0} (p : A → Bool) (xs ys : List A) → filter p (xs ++ ys) ≡ filter p xs ++ filter p ys
+unfolding filter pick
+filter-append p [] ys = refl
+filter-append p (x ∷ xs) ys =
+    by-test (p x) (λ t. rw t (ap (λ l. x ∷ l) (filter-append p xs ys))) (λ t. rw t (filter-append p xs ys))
+
+-- a range is two in a row
+pub range-append : (from k n : ℕ) → range from (k + n) ≡ range from k ++ range (from + k) n
+unfolding range
+range-append from zero n = rw (zero-add, add-zero)
+range-append from (suc k) n = rw (suc-add k n, add-suc from k) (ap (λ l. from ∷ l) (range-append (suc from) k n ∙ rw suc-add))
 
 -- walks from slots of one pool
 module _ (e : Edition) (N : ℕ) (P R : List ℕ) where

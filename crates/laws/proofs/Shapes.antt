@@ -211,7 +211,7 @@ kept-splits = record { sized = λ x y same. ap length same; apart = halves }
         (cc, rest .1)
 
 -- zeros of one length are the same
-blank-same : (x y : List ℕ) → length x ≡ length y → blank x ≡ blank y
+pub blank-same : (x y : List ℕ) → length x ≡ length y → blank x ≡ blank y
 unfolding blank
 blank-same x y len = ap (λ (n : ℕ). replicate {A = ℕ} n 0) len
 

@@ -1,6 +1,6 @@
-// Little-endian numbers in slices of bytes, and bytes put into a lent part.
+// Little-endian numbers in slices of bytes, bytes put into a lent part, and the smaller of two numbers.
 ghost use mathlib.Core.Path.{_≡_};
-ghost use Prim.Native.Nat.{_+_, _-_, _≤_};
+ghost use Prim.Native.Nat.{_+_, _-_, _≤_, min};
 ghost use mathlib.Core.List.{[], _∷_};
 ghost use lib.ListN.{length, take, replicate};
 ghost use Rattle.meaning.specs.Lists.{part, pasted, sameList, number, bytes, zeros};
@@ -146,4 +146,11 @@ pub fn all_zero(s: &[u8]) -> bool
         i += 1;
     }
     true
+}
+
+// The smaller of two numbers.
+pub fn least(a: usize, b: usize) -> usize
+    ensures { λ r. ⌜ r ≡ min a b ⌝ }
+{
+    if a < b { a } else { b }
 }

@@ -10,10 +10,11 @@ use Rattle.meaning.specs.declared.Edition.{Edition}
 use Rattle.meaning.specs.Lists.{pasted, bytes}
 use Rattle.meaning.specs.Edition.{Proper}
 use Rattle.meaning.specs.Bytes.{rowBytes, header, encoded, dataOf}
+use Rattle.laws.proofs.Numbers.{OfBytes}
 use Rattle.laws.proofs.Parts.{pasted-length}
 use Rattle.laws.proofs.Codec.{encoded-bytes, header-length, passed-encoded, cellOf, rowOf}
 use Rattle.laws.proofs.Inversions.{Sound, sound-passed}
-use Rattle.stretch.specs.Plan.{leafCell, Bytes}
+use Rattle.stretch.specs.Plan.{leafCell}
 
 -- bytes pasted behind a list
 pasted-behind : (a l new : List ℕ) (w : ℕ) → pasted (length a + w) new (a ++ l) ≡ a ++ pasted w new l
@@ -63,7 +64,7 @@ module _ (e : Edition) (p : Proper e) where
       ∙ sym (leaf-bytes (pasted within new row) s v′ (omega arith))
 
   -- where header and payload fill a block, a leaf's block of bytes that passes checks 2 and 3 is the written block of its bytes
-  pub leaf-encoded : e .size ≡ 16 + e .leaf → (v s : ℕ) (b : List ℕ) → length b ≡ e .size → Bytes b → Sound e 0 true true v s b
+  pub leaf-encoded : e .size ≡ 16 + e .leaf → (v s : ℕ) (b : List ℕ) → length b ≡ e .size → OfBytes b → Sound e 0 true true v s b
       → b ≡ encoded e (leafCell (dataOf b)) s v
   unfolding cellOf rowOf
-  leaf-encoded fills v s b long small sound = passed-encoded e p fills 0 true true v s b long small (sound-passed e 0 true true v s b sound)
+  leaf-encoded fills v s b long small sound = passed-encoded e p fills 0 true true v s b long (small .small) (sound-passed e 0 true true v s b sound)

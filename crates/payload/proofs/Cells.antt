@@ -10,12 +10,12 @@ use Rattle.meaning.specs.declared.Edition.{Edition}
 use Rattle.meaning.specs.Lists.{part, joined, bytes, number, padded, fours}
 use Rattle.meaning.specs.Edition.{Proper}
 use Rattle.meaning.specs.Bytes.{Cell, rowBytes, header, blockBytes, encoded, countOf, dataOf, childrenOf}
-use Rattle.meaning.specs.Shape.{most}
 use Rattle.meaning.specs.Walk.{used}
-use Rattle.laws.proofs.Codec.{padded-length, header-length, drop-small, fours-written, rowOf, row-count}
+use Rattle.laws.proofs.Numbers.{OfBytes}
+use Rattle.laws.proofs.Codec.{fours-length, padded-length, header-length, drop-small, fours-written, rowOf, row-count}
 use Rattle.payload.specs.declared.Drawn.{Drawn}
-use Rattle.payload.specs.Draws.{Draws, OfBytes}
-use Rattle.payload.proofs.Rows.{spelled-length, padded-twice}
+use Rattle.payload.specs.Draws.{Draws}
+use Rattle.payload.proofs.Rows.{padded-twice}
 
 module _ (e : Edition) (p : Proper e) where
   -- a row of children, one higher than h
@@ -23,7 +23,7 @@ module _ (e : Edition) (p : Proper e) where
       → Draws e (record { height = suc h; row = row }) (record { height = h + 1; count = n }) x
   unfolding rowBytes
   drawn-inner h n row x many fits is =
-      record { height = add-one h; count = many; payload = is; fits = omega (arith, spelled-length row, p .fills) }
+      record { height = add-one h; count = many; payload = is; fits = omega (arith, fours-length row, p .fills) }
 
   -- a leaf's bytes
   pub drawn-leaf : (n : ℕ) (row x : List ℕ) → n ≡ length row → n ≤ e .leaf → x ≡ padded (e .leaf) row
@@ -87,9 +87,3 @@ module _ (b : List ℕ) where
   pub cut-leaf : (n : ℕ) → take n (dataOf b) ≡ part 16 (min (countOf b) n) b
   unfolding dataOf part
   cut-leaf n = take-front n (countOf b) (drop 16 b)
-
--- an inner block has no more children than the fan
-pub inner-most : (e : Edition) (h c : ℕ) → (h ≡ 0 → ⊥) → c ≤ most e h → c ≤ e .fan
-unfolding most
-inner-most e zero c tall few = absurd (tall refl)
-inner-most e (suc h) c tall few = few

@@ -4,19 +4,12 @@ use mathlib.Core.Path.{_≡_, refl, ap, ap₂, _∙_, sym}
 use mathlib.Core.List.{List, [], _∷_, _++_, map, append-assoc}
 use Prim.Native.Nat.{ℕ, zero, suc, _+_, _-_, _*_, _≤_}
 use native.Mathlib.Omega.{arith}
-use lib.ListN.{length, take, drop, replicate, length-append, take-append-drop, replicate-append-replicate}
+use lib.ListN.{length, take, drop, replicate, length-append, replicate-append-replicate}
 use lib.Seq.{take-append-seam, drop-append-add}
 use Rattle.meaning.specs.Lists.{joined, bytes, padded, pasted}
-use Rattle.meaning.specs.Bytes.{rowBytes}
-use Rattle.meaning.specs.Walk.{used}
-use Rattle.laws.proofs.Codec.{padded-length, padded-fits, row-length}
+use Rattle.laws.proofs.Codec.{fours-length, padded-length, padded-fits}
 use Rattle.laws.proofs.Parts.{drop-pasted}
 use Rattle.laws.proofs.Building.{take-pasted-to}
-
--- child slots have four bytes each
-pub spelled-length : (row : List ℕ) → length (joined (map (bytes 4) row)) ≡ 4 * length row
-unfolding rowBytes used
-spelled-length row = row-length 1 row
 
 -- the bytes of two rows, one after the other
 pub spelled-append : (a b : List ℕ) → joined (map (bytes 4) (a ++ b)) ≡ joined (map (bytes 4) a) ++ joined (map (bytes 4) b)
@@ -25,11 +18,6 @@ spelled-append [] b = refl
 spelled-append (x ∷ a) b =
     ap (λ (l : List ℕ). bytes 4 x ++ l) (spelled-append a b)
     ∙ sym (append-assoc (bytes 4 x) (joined (map (bytes 4) a)) (joined (map (bytes 4) b)))
-
--- nothing pasted changes nothing
-pub pasted-none : (a : ℕ) (l : List ℕ) → a ≤ length l → pasted a [] l ≡ l
-unfolding pasted
-pasted-none a l h = let z : a + 0 ≡ a = omega arith in rw z (take-append-drop a l)
 
 -- two lists pasted one behind the other
 pub pasted-more : (a : ℕ) (x y l : List ℕ) → a + (length x + length y) ≤ length l → pasted (a + length x) y (pasted a x l) ≡ pasted a (x ++ y) l
@@ -76,8 +64,8 @@ over-zeros m new h = ap (λ (l : List ℕ). pasted 0 new l) (sym (padded-none m)
 pub slots-more : (m : ℕ) (row new : List ℕ) → 4 * (length row + length new) ≤ m
     → pasted (4 * length row) (joined (map (bytes 4) new)) (padded m (joined (map (bytes 4) row))) ≡ padded m (joined (map (bytes 4) (row ++ new)))
 slots-more m row new h =
-    let n = spelled-length row in
-    let k = spelled-length new in
+    let n = fours-length row in
+    let k = fours-length new in
     ap (λ (a : ℕ). pasted a (joined (map (bytes 4) new)) (padded m (joined (map (bytes 4) row)))) (sym n)
     ∙ padded-more m (joined (map (bytes 4) row)) (joined (map (bytes 4) new)) (omega arith)
     ∙ ap (padded m) (sym (spelled-append row new))

@@ -1,5 +1,5 @@
 -- The loop that puts slots into a payload: after i turns the first i of them are pasted, one behind the other.
-use mathlib.Core.Path.{_≡_, ap, _∙_, sym}
+use mathlib.Core.Path.{_≡_, refl, ap, _∙_, sym}
 use mathlib.Core.List.{List, [], _∷_, _++_, map, append-nil}
 use Prim.Native.Nat.{ℕ, zero, suc, _+_, _*_, _^_, _≤_, _<_}
 use native.Mathlib.Numerals.{add-one}
@@ -7,9 +7,11 @@ use native.Mathlib.Omega.{arith}
 use lib.ListN.{length, getD}
 use Rattle.meaning.specs.Lists.{joined, bytes, pasted}
 use Rattle.laws.proofs.Numbers.{bytes-length}
+use Rattle.laws.proofs.Parts.{pasted-none}
+use Rattle.laws.proofs.Codec.{fours-length}
 use Rattle.growth.specs.Forms.{past, every}
 use Rattle.growth.proofs.Steps.{every-length}
-use Rattle.payload.proofs.Rows.{spelled-length, spelled-append, pasted-none, pasted-more}
+use Rattle.payload.proofs.Rows.{spelled-append, pasted-more}
 
 -- slots taken at equal steps: one more, at the end
 pub every-more : (free : List ℕ) (step c k : ℕ) → every free step (suc c) k ≡ every free step c k ++ (getD free (k + c * step) past ∷ [])
@@ -26,7 +28,7 @@ Put free at from step i k l₀ l = (k ≡ from + i * step) × (l ≡ pasted (4 *
 -- at the start
 pub put-none : (free : List ℕ) (at from step count : ℕ) (l₀ : List ℕ) → 4 * (at + count) ≤ length l₀ → Put free at from step 0 from l₀ l₀
 unfolding Put every joined
-put-none free at from step count l₀ h = (omega arith, sym (pasted-none (4 * at) l₀ (omega arith)))
+put-none free at from step count l₀ h = (omega arith, sym (pasted-none (4 * at) [] l₀ refl))
 
 -- one turn
 pub put-more : (free : List ℕ) (at from step count i k x : ℕ) (l₀ l l₁ : List ℕ) → 4 * (at + count) ≤ length l₀ → i < count
@@ -36,7 +38,7 @@ unfolding Put joined
 put-more free at from step count i k x l₀ l l₁ fits less inv ex e =
     let row = every free step i from in
     let n : length row ≡ i = every-length free step i from in
-    let s : length (joined (map (bytes 4) row)) ≡ 4 * i = spelled-length row ∙ ap (λ (j : ℕ). 4 * j) n in
+    let s : length (joined (map (bytes 4) row)) ≡ 4 * i = fours-length row ∙ ap (λ (j : ℕ). 4 * j) n in
     let b : length (bytes 4 x) ≡ 4 = bytes-length 4 x in
     let a : 4 * (at + i) ≡ 4 * at + length (joined (map (bytes 4) row)) = omega arith in
     let y : bytes 4 x ≡ joined (map (bytes 4) (getD free (from + i * step) past ∷ [])) =

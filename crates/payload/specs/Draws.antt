@@ -1,8 +1,8 @@
 -- A cell as code holds it.
 use mathlib.Core.Path.{_≡_}
 use mathlib.Core.List.{List}
-use Prim.Native.Nat.{ℕ, _≤_, _<_}
-use lib.ListN.{length, getD}
+use Prim.Native.Nat.{ℕ, _≤_}
+use lib.ListN.{length}
 use Rattle.meaning.specs.declared.Edition.{Edition}
 use Rattle.meaning.specs.Lists.{padded}
 use Rattle.meaning.specs.Bytes.{Cell, rowBytes}
@@ -14,7 +14,3 @@ pub record Draws (e : Edition) (c : Cell) (d : Drawn) (x : List ℕ) : Type 0 wh
   pub count : d .count ≡ length (c .row)
   pub payload : x ≡ padded (e .leaf) (rowBytes (c .height) (c .row))
   pub fits : length (rowBytes (c .height) (c .row)) ≤ e .leaf
-
--- a list of bytes
-pub record OfBytes (l : List ℕ) : Type 0 where
-  pub small : (i : ℕ) → getD l i 0 < 256

@@ -8,8 +8,8 @@ ghost use lib.ListN.{length};
 ghost use Rattle.meaning.specs.Lists.{joined, part, padded, pasted, bytes};
 ghost use Rattle.meaning.specs.Edition.{Proper};
 ghost use Rattle.meaning.specs.Resize.{share};
+ghost use Rattle.laws.proofs.Numbers.{OfBytes};
 ghost use Rattle.growth.specs.Forms.{every};
-ghost use Rattle.payload.specs.Draws.{OfBytes};
 
 // A block's height and count.
 pub struct Drawn {

@@ -60,20 +60,6 @@ bulk-twice fan (suc h) two = omega (arith, pow-succ' fan h, mul-le-mul-left fan 
 pub bulk-some : (fan h b : ℕ) → 1 ≤ fan → b ≡ bulk fan h → 1 ≤ b
 bulk-some fan h b some whole = omega (arith, bulk-leaves fan h some, pow-some fan h some)
 
--- a higher subtree has more
-pub bulk-more : (fan h : ℕ) → 1 ≤ fan → bulk fan h < bulk fan (suc h)
-unfolding bulk
-bulk-more fan h some = omega (arith, mul-le-mul-right (bulk fan h) some)
-
-bulk-above : (fan g d : ℕ) → 1 ≤ fan → bulk fan g ≤ bulk fan (d + g)
-bulk-above fan g zero some = let z : 0 + g ≡ g = omega arith in rw z (omega arith)
-bulk-above fan g (suc d) some =
-    let z : suc d + g ≡ suc (d + g) = omega arith in
-    rw z (omega (arith, bulk-above fan g d some, bulk-more fan (d + g) some))
-
-pub bulk-rises : (fan g h : ℕ) → 1 ≤ fan → g ≤ h → bulk fan g ≤ bulk fan h
-bulk-rises fan g h some low = let z : h ≡ (h - g) + g = omega arith in rw z (bulk-above fan g (h - g) some)
-
 -- a height is below the top if its full subtree has the number of blocks or fewer, and the top's has more
 pub level-less : (fan h top number : ℕ) → h ≤ top → bulk fan h ≤ number → number < bulk fan top → h < top
 level-less fan h top number low old new = apart (top - h) refl

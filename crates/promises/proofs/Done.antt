@@ -1,16 +1,16 @@
 -- Calls that are done: what each makes of every slot, and of the blobs.
-use mathlib.Core.Path.{_≡_, refl, sym, ap, ap₂, subst, _∙_}
+use mathlib.Core.Path.{_≡_, refl, sym, ap, subst, _∙_}
 use mathlib.Core.Logic.{_⊎_, inl, inr}
-use mathlib.Core.Bool.{true, false}
+use mathlib.Core.Bool.{false}
 use mathlib.Core.List.{List, [], _∷_, _++_, List·Memᴰ}
 use Prim.Native.Nat.{ℕ, _+_, _/_, _≤_, _<_}
 use native.Mathlib.Omega.{arith}
-use borrow.Author.Tests.{ltb-false, eqb-true, eq-eqb, lt-ltb}
+use borrow.Author.Tests.{ltb-false, eq-eqb, lt-ltb}
 use lib.Dec.{eqb, ltb}
 use lib.ListN.{take}
 use lib.ListN as list
 use Rattle.meaning.specs.declared.Edition.{Edition}
-use Rattle.meaning.specs.Lists.{pick, sameList, pasted, padded}
+use Rattle.meaning.specs.Lists.{pick, pasted, padded}
 use Rattle.meaning.specs.Edition.{Proper}
 use Rattle.meaning.specs.Bytes.{Cell, sameCell, block, recordAt, recordOf, state, recorded, lastVersion, usableSlot}
 use Rattle.meaning.specs.Shape.{Shaped}
@@ -22,7 +22,8 @@ use Rattle.meaning.specs.Calls.{Outcome, done, after, slotsIn, become, usable, 
 use Rattle.meaning.specs.Calls.{createCall, createIn, createOn, writeCall, resizeCall, deleteCall, deleteIn, deleteOn}
 use Rattle.meaning.specs.Answers.{yields}
 use Rattle.meaning.specs.Run.{create, write, resize, delete, says, perform}
-use Rattle.laws.proofs.Inversions.{by-test, both-true, true-both, same-list, same-self, never}
+use Rattle.laws.proofs.Inversions.{by-test, true-both, same-self, never}
+use Rattle.laws.proofs.Codec.{state-of, recorded-of}
 use Rattle.laws.proofs.Roots.{in-range, in-filter}
 use Rattle.resizing.proofs.Slots.{times, member-times, times-member}
 use Rattle.resizing.proofs.Resized.{resized-taken, resized-from}
@@ -31,8 +32,7 @@ use Rattle.sound.proofs.Slots.{by-times, times-none}
 use Rattle.sound.proofs.Blobs.{Lies, lies-within}
 use Rattle.sound.proofs.Pools.{pool-one}
 use Rattle.sound.proofs.Puts.{made, then-pool, then-block, then-record}
-use Rattle.sound.proofs.After.{held-none, held-some}
-use Rattle.history.proofs.Stepped.{state-of, recorded-of}
+use Rattle.sound.proofs.After.{held-none, held-some, same-cell}
 use Rattle.again.proofs.Parting.{blob-met}
 use Rattle.again.proofs.Outcomes.{Opens, opened-done, afterCheck-done, refuseIf-done, done-same, sized-lengths, Lengths, changing-done, among-lies}
 use Rattle.again.proofs.Done.{emptyBlob, create-done, delete-done, among-others}
@@ -47,13 +47,6 @@ unfolding sameCell
 other-cell a c t q =
     let s = true-both (eqb (c .height) (c .height)) _ (eq-eqb (c .height) (c .height) refl) (same-self (c .row)) in
     never (sym s ∙ rw q at t)
-
--- and cells that are found the same are the same
-same-cell : (a c : Cell) → sameCell a c ≡ true → a ≡ c
-unfolding sameCell
-same-cell a c h =
-    let k = both-true (eqb (a .height) (c .height)) (sameList (a .row) (c .row)) h in
-    ap₂ (λ (h : ℕ) (r : List ℕ). record { height = h; row = r }) (eqb-true (a .height) (c .height) (k .0)) (same-list (a .row) (c .row) (k .1))
 
 -- what the changes of a slot make of it, by what it held and holds
 slot-turns : (e : Edition) (S S′ : Store) (taken x : ℕ) (o n : Held)

@@ -6,7 +6,7 @@ use mathlib.Core.List.{List, [], _∷_, _++_, map, map-append, map-map}
 use Prim.Native.Nat.{ℕ, zero, suc, _+_, _-_, _≤_}
 use native.Mathlib.Omega.{arith}
 use lib.Dec.{eqb}
-use lib.ListN.{length, length-append, length-drop, take, drop, replicate}
+use lib.ListN.{length, length-append, length-drop, take, drop}
 use lib.Seq.{take-add, take-all, drop-drop, length-take-le}
 use borrow.Author.Tests.{ne-eqb}
 use Rattle.meaning.specs.declared.Edition.{Edition}
@@ -16,7 +16,7 @@ use Rattle.meaning.specs.Tree.{Tree, Blob, slotOf, content, leaves, cells, root
 use Rattle.meaning.specs.Shape.{InRow, ShapedTree, Shaped}
 use Rattle.meaning.specs.Resize.{along, refill, refilled}
 use Rattle.laws.proofs.Inversions.{by-test}
-use Rattle.laws.proofs.Shapes.{blank}
+use Rattle.laws.proofs.Shapes.{blank, blank-same}
 use Rattle.laws.proofs.Walked.{leafSlots}
 
 -- a cell with a leaf's bytes put to zero
@@ -49,11 +49,6 @@ held-inner (x ∷ xs) (y ∷ ys) same s c there inner =
     rw (hollow-slot x y first) (by-test (eqb (y .0) s)
     (λ t. rw t (let is : y .1 ≡ c = cc (rw t at there) in ap just (hollow-inner x y first (λ z. inner (sym (ap (λ (c : Cell). c .height) is) ∙ z)) ∙ is)))
     (λ t. rw t (held-inner xs ys rest s c (rw t at there) inner)))
-
--- bytes put to zero tell only how many they are
-blank-same : (x y : List ℕ) → length x ≡ length y → blank x ≡ blank y
-unfolding blank
-blank-same x y same = ap (λ (n : ℕ). replicate {A = ℕ} n 0) same
 
 -- a tree takes its bytes from the front of d, and leaves the rest
 unfoldable Taken : (h : ℕ) → Tree h → List ℕ → Tree h × List ℕ → Type 0
@@ -95,13 +90,13 @@ along-length f d [] = refl
 along-length f d (x ∷ xs) = ap suc (along-length f (f d x .1) xs)
 
 -- the root of a tree stays in its slot
-refill-slot : (h : ℕ) (d : List ℕ) (t : Tree h) → slotOf h (refill h d t .0) ≡ slotOf h t
+pub refill-slot : (h : ℕ) (d : List ℕ) (t : Tree h) → slotOf h (refill h d t .0) ≡ slotOf h t
 unfolding refill slotOf
 refill-slot zero d t = refl
 refill-slot (suc h) d t = refl
 
 -- and so those of a row
-along-slots : (h : ℕ) (d : List ℕ) (ts : List (Tree h)) → map (slotOf h) (along (refill h) d ts .0) ≡ map (slotOf h) ts
+pub along-slots : (h : ℕ) (d : List ℕ) (ts : List (Tree h)) → map (slotOf h) (along (refill h) d ts .0) ≡ map (slotOf h) ts
 unfolding along
 along-slots h d [] = refl
 along-slots h d (t ∷ ts) = ap₂ {C = List ℕ} (λ x xs. x ∷ xs) (refill-slot h d t) (along-slots h (refill h d t .1) ts)

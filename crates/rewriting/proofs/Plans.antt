@@ -12,10 +12,11 @@ use Rattle.meaning.specs.Lists.{pick, both, part, pasted, sameList}
 use Rattle.meaning.specs.Bytes.{sameCell, block, countOf, dataOf, state}
 use Rattle.meaning.specs.Change.{renewed}
 use Rattle.laws.proofs.Numbers.{part-length, part-part}
+use Rattle.laws.proofs.Parts.{pasted-none}
 use Rattle.laws.proofs.Inversions.{by-test, same-self}
 use Rattle.stretch.specs.declared.Stretch.{Stretch}
 use Rattle.stretch.specs.Plan.{touchedBy, differing, planOf, stretched, leafCell, putBy, writePlan}
-use Rattle.stretch.proofs.Stretches.{fits-both, pasted-none, same-pasted}
+use Rattle.stretch.proofs.Stretches.{fits-both, same-pasted}
 
 -- two leaves are the same if their bytes are
 same-leaf : (a b : List ℕ) → sameCell (leafCell a) (leafCell b) ≡ sameList a b

@@ -18,7 +18,7 @@ use Rattle.growth.specs.Forms.{newLeaves, newBytes, topCell, grownRoot, grownNe
 use Rattle.growth.specs.Cuts.{heightOfLength}
 use Rattle.growth.specs.Slots.{rise}
 use Rattle.growth.proofs.Whole.{blob-room, blob-space, rise-room, rise-space}
-use Rattle.growth.proofs.Steps.{root-rises, new-edge, new-tall, tall-moved, tall-beside, tall-further}
+use Rattle.growth.proofs.Steps.{bulk-rises, root-rises, new-edge, new-tall, tall-moved, tall-beside, tall-further}
 use Rattle.rising.specs.Tops.{topAt}
 use Rattle.rising.proofs.Tops.{top-own, top-next}
 use Rattle.rising.proofs.Bounds.{want-over, blob-leaves-fit, blob-blocks-fit, longer-height}
@@ -27,12 +27,6 @@ use Rattle.rising.proofs.Bounds.{want-over, blob-leaves-fit, blob-block
 pub bulk-next-more : (fan h : ℕ) → 2 ≤ fan → 2 * bulk fan h < bulk fan (suc h)
 unfolding bulk
 bulk-next-more fan h two = omega (arith, mul-le-mul-right (bulk fan h) two)
-
-pub bulk-mono : (fan g k : ℕ) → 2 ≤ fan → bulk fan g ≤ bulk fan (g + k)
-bulk-mono fan g zero two = let z : g + 0 ≡ g = omega arith in rw z (omega arith)
-bulk-mono fan g (suc k) two =
-    let z : g + suc k ≡ suc (g + k) = omega arith in
-    rw z (omega (arith, bulk-mono fan g k two, bulk-next-more fan (g + k) two))
 
 -- one of two heights, by cases
 by-height : {A : Type 0} (g i : ℕ) → g ≤ i → (g ≡ i → A) → (suc g ≤ i → A) → A
@@ -102,7 +96,7 @@ module _ (e : Edition) (proper : Proper e) (len n t : ℕ) (free : List ℕ) (h 
 
   -- bulk at a height that is not above another
   bulk-to : (g i : ℕ) → g ≤ i → bulk (e .fan) g ≤ bulk (e .fan) i
-  bulk-to g i le = let z : g + (i - g) ≡ i = omega arith in rw z at (bulk-mono (e .fan) g (i - g) (proper .two))
+  bulk-to g i le = bulk-rises (e .fan) g i (omega (arith, proper .two)) le
 
   -- the block that takes the root's row
   tall-top : (k g i p : ℕ) → Fits g → g ≤ i → i < g + k → p + t ≡ bulk (e .fan) i → tallFrom k g p ≡ top i

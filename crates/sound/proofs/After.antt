@@ -1,7 +1,7 @@
 -- The slots after a call that turns some cells into others. A slot that holds nothing before and after keeps its bytes; one that holds a cell
 -- no more is zeros and free; one that holds a new cell has it written, at the old version plus one; one whose cell is the same keeps its bytes.
 -- So what is held afterwards reads so, and every record keeps its layout.
-use mathlib.Core.Path.{_≡_, refl, ap, ap₂, _∙_, sym, subst}
+use mathlib.Core.Path.{_≡_, refl, ap₂, _∙_, sym, subst}
 use mathlib.Core.Bool.{true, false}
 use mathlib.Core.List.{List, [], _∷_}
 use Prim.Native.Nat.{ℕ, _+_, _*_, _^_, _≤_, _<_}
@@ -12,12 +12,12 @@ use lib.ListN.{length}
 use Rattle.meaning.specs.declared.Edition.{Edition}
 use Rattle.meaning.specs.Lists.{pick, range, zeros, sameList}
 use Rattle.meaning.specs.Edition.{Proper}
-use Rattle.meaning.specs.Bytes.{Cell, sameCell, block, recordOf, recordWith, recordAt, state, stateOf, recorded, recordedOf, soundRecord}
+use Rattle.meaning.specs.Bytes.{Cell, sameCell, block, recordOf, recordWith, recordAt, state, stateOf, recorded, soundRecord}
 use Rattle.meaning.specs.Tree.{Held, nothing, just, held}
 use Rattle.meaning.specs.Change.{Store, changed, changedBy, freed, renewed}
 use Rattle.meaning.specs.Calls.{become}
-use Rattle.laws.proofs.Inversions.{by-test, both-true, same-list, list-zeros, sound-record, record-sound}
-use Rattle.laws.proofs.Codec.{state-read, recorded-read, record-kept}
+use Rattle.laws.proofs.Inversions.{by-test, both-true, same-list, list-zeros, record-sound}
+use Rattle.laws.proofs.Codec.{state-of, recorded-of, state-known, record-kept}
 use Rattle.resizing.proofs.Slots.{times, times-cons}
 use Rattle.sound.proofs.Slots.{times-none, times-same, times-other, by-times, Each, range-within}
 use Rattle.sound.proofs.Cells.{Every, every-at, cellSlots, Reads, Written, Fits, written-reads}
@@ -79,31 +79,16 @@ held-own (c ∷ cs) once =
     )
 
 -- two cells that are found the same are the same
-same-cell : (a b : Cell) → sameCell a b ≡ true → a ≡ b
+pub same-cell : (a b : Cell) → sameCell a b ≡ true → a ≡ b
 unfolding sameCell
 same-cell a b h =
     let k = both-true (eqb (a .height) (b .height)) (sameList (a .row) (b .row)) h in
     ap₂ (λ (h : ℕ) (r : List ℕ). record { height = h; row = r }) (eqb-true (a .height) (b .height) (k .0)) (same-list (a .row) (b .row) (k .1))
 
--- the state of a slot whose record is written
-line-state : (R : List ℕ) (s st v : ℕ) → recordAt R s ≡ recordOf st v → state R s ≡ st
-unfolding state
-line-state R s st v h = ap stateOf h ∙ state-read st v
-
--- and its version
-line-version : (R : List ℕ) (s st v : ℕ) → v < 2 ^ 64 → recordAt R s ≡ recordOf st v → recorded R s ≡ v
-unfolding recorded
-line-version R s st v y h = ap recordedOf h ∙ recorded-read st v y
-
 -- a written record of a free slot keeps its layout, whatever its version
 pub free-sound : (v : ℕ) → soundRecord (recordOf 0 v) ≡ true
 unfolding recordOf recordWith stateOf
 free-sound v = record-sound (recordOf 0 v) (record { mark = refl; state = omega arith; fourth = refl; live = λ n. absurd (n refl) })
-
--- the state of a sound record
-pub sound-state : (R : List ℕ) (s : ℕ) → soundRecord (recordAt R s) ≡ true → state R s ≤ 2
-unfolding state
-sound-state R s h = sound-record (recordAt R s) h .state
 
 -- a store of N slots in which the cells of old become those of new
 module _ (e : Edition) (N : ℕ) (S : Store) (taken : ℕ) (old new : List (ℕ × Cell)) where
@@ -142,7 +127,7 @@ module _ (e : Edition) (N : ℕ) (S : Store) (taken : ℕ) (old new : List (ℕ 
         → (state (Next .records) s ≡ 0) × (zeros (block e (Next .pool) s) ≡ true)
     unfolding made changed freed
     freed-after b o n = (
-      line-state (Next .records) s 0 (recorded (S .records) s) (rw (o, n) at record-after),
+      state-of (Next .records) s 0 (recorded (S .records) s) (rw (o, n) at record-after),
       rw (rw (o, n) at block-after) (list-zeros (e .size)),
     )
 
@@ -152,9 +137,9 @@ module _ (e : Edition) (N : ℕ) (S : Store) (taken : ℕ) (old new : List (ℕ 
     unfolding made changed renewed
     taken-after c y o n =
         let l : recordAt (Next .records) s ≡ recordOf taken (recorded (S .records) s + 1) = rw (o, n) at record-after in
-        let v = line-version (Next .records) s taken (recorded (S .records) s + 1) y l in (
+        let v = recorded-of (Next .records) s taken (recorded (S .records) s + 1) l y in (
           record { within = low; young = omega arith; bytes = rw v (rw (o, n) at block-after) },
-          line-state (Next .records) s taken (recorded (S .records) s + 1) l,
+          state-of (Next .records) s taken (recorded (S .records) s + 1) l,
         )
 
     -- the same cell
@@ -169,9 +154,9 @@ module _ (e : Edition) (N : ℕ) (S : Store) (taken : ℕ) (old new : List (ℕ 
     unfolding made changed pick renewed
     renewed-after b c q y o n =
         let l : recordAt (Next .records) s ≡ recordOf (state (S .records) s) (recorded (S .records) s + 1) = rw (o, n, q) at record-after in
-        let v = line-version (Next .records) s (state (S .records) s) (recorded (S .records) s + 1) y l in (
+        let v = recorded-of (Next .records) s (state (S .records) s) (recorded (S .records) s + 1) l y in (
           record { within = low; young = omega arith; bytes = rw v (rw (o, n, q) at block-after) },
-          line-state (Next .records) s (state (S .records) s) (recorded (S .records) s + 1) l,
+          state-of (Next .records) s (state (S .records) s) (recorded (S .records) s + 1) l,
         )
 
     -- a slot that held a cell and holds one keeps its state
@@ -221,7 +206,7 @@ module _ (e : Edition) (N : ℕ) (S : Store) (taken : ℕ) (old new : List (ℕ 
         go nothing (just c) y = next taken few (y c refl)
         go (just b) nothing y = free-sound (recorded (S .records) s)
         go (just b) (just c) y =
-            by-test (sameCell b c) (λ t. rw t was) (λ t. rw t (next (state (S .records) s) (sound-state (S .records) s was) (y c refl)))
+            by-test (sameCell b c) (λ t. rw t was) (λ t. rw t (next (state (S .records) s) (state-known (S .records) s was) (y c refl)))
 
 -- the changes by which cells become others
 module _ (e : Edition) (N : ℕ) (P R : List ℕ) (taken : ℕ) (old new : List (ℕ × Cell)) where

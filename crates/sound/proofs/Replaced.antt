@@ -4,7 +4,7 @@ use mathlib.Core.Path.{_≡_, refl, ap, ap₂, _∙_, sym}
 use mathlib.Core.Bool.{Bool, true, false}
 use mathlib.Core.List.{List, [], _∷_, _++_, map, map-append}
 use Prim.Native.Nat.{ℕ, zero, suc, _+_, _≤_, _<_}
-use native.Mathlib.Nat.{add-zero, add-suc, zero-add, suc-add}
+use native.Mathlib.Nat.{zero-add}
 use native.Mathlib.Omega.{arith}
 use borrow.Author.Tests.{ne-eqb}
 use lib.Dec.{eqb}
@@ -13,7 +13,7 @@ use Rattle.meaning.specs.declared.Edition.{Edition}
 use Rattle.meaning.specs.Lists.{pick, range, filter, zeros}
 use Rattle.meaning.specs.Bytes.{Cell, block, recordAt, state, recorded}
 use Rattle.meaning.specs.Tree.{Blob, rootOf, cellsOf, slotsOf}
-use Rattle.laws.proofs.Inversions.{by-test}
+use Rattle.laws.proofs.Roots.{filter-append, range-append}
 use Rattle.resizing.proofs.Slots.{times, times-append, times-cons}
 use Rattle.sound.proofs.Slots.{times-none, times-same, by-times, Each, each-left, each-right}
 use Rattle.sound.proofs.Cells.{Every, every-apart, every-append, every-at, cellSlots, Reads}
@@ -75,24 +75,11 @@ module _ (e : Edition) (N : ℕ) (P R P′ R′ : List ℕ) where
         kept-all bs (each-right (Kept e P R P′ R′) (slotsOf b) (allSlots bs) k′) (l .1),
       )
 
--- a filtered list is the filtered parts
-pub filter-append : {A : Type 0} (p : A → Bool) (xs ys : List A) → filter p (xs ++ ys) ≡ filter p xs ++ filter p ys
-unfolding filter pick
-filter-append p [] ys = refl
-filter-append p (x ∷ xs) ys =
-    by-test (p x) (λ t. rw t (ap (λ l. x ∷ l) (filter-append p xs ys))) (λ t. rw t (filter-append p xs ys))
-
 -- tests that agree on a range filter it alike
 pub filter-same : (p q : ℕ → Bool) (from n : ℕ) → ((s : ℕ) → from ≤ s → s < from + n → p s ≡ q s) → filter p (range from n) ≡ filter q (range from n)
 unfolding filter range
 filter-same p q from zero h = refl
 filter-same p q from (suc n) h = rw (h from (omega arith) (omega arith), filter-same p q (suc from) n (λ s a b. h s (omega arith) (omega arith)))
-
--- a range is two in a row
-pub range-append : (from k n : ℕ) → range from (k + n) ≡ range from k ++ range (from + k) n
-unfolding range
-range-append from zero n = rw (zero-add, add-zero)
-range-append from (suc k) n = rw (suc-add k n, add-suc from k) (ap (λ l. from ∷ l) (range-append (suc from) k n ∙ rw suc-add))
 
 -- all slots, parted at one
 pub filter-parted : (p : ℕ → Bool) (r m : ℕ)

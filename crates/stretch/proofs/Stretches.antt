@@ -10,7 +10,7 @@ use lib.ListN.{length, getD, take, drop, length-take, length-drop, take-append-d
 use lib.Seq.{ext-getD, getD-take, getD-drop, drop-drop}
 use Rattle.meaning.specs.Lists.{both, part, pasted, sameList}
 use Rattle.laws.proofs.Numbers.{part-length}
-use Rattle.laws.proofs.Parts.{pasted-length, take-pasted, drop-pasted, part-pasted}
+use Rattle.laws.proofs.Parts.{pasted-none, pasted-length, take-pasted, drop-pasted, part-pasted}
 use Rattle.laws.proofs.Inversions.{by-test, same-self}
 use Rattle.stretch.specs.declared.Stretch.{Stretch}
 use Rattle.stretch.specs.Plan.{touchedBy, stretched}
@@ -19,12 +19,6 @@ use Rattle.stretch.specs.Plan.{touchedBy, stretched}
 at-part : (a n : ℕ) (l : List ℕ) (j : ℕ) → j < n → getD (part a n l) j 0 ≡ getD l (a + j) 0
 unfolding part
 at-part a n l j h = getD-take n (drop a l) j 0 h ∙ getD-drop a l j 0
-
--- nothing pasted
-pub pasted-none : (at : ℕ) (new l : List ℕ) → length new ≡ 0 → pasted at new l ≡ l
-unfolding pasted
-pasted-none at [] l h = let z : at + 0 ≡ at = omega arith in rw z (take-append-drop at l)
-pasted-none at (x ∷ new) l h = absurd (omega arith)
 
 -- an element of a list with something pasted: before it, in it, behind it
 module _ (at : ℕ) (new l : List ℕ) (fits : at + length new ≤ length l) where

@@ -9,6 +9,7 @@ use Rattle.meaning.specs.declared.Edition.{Edition}
 use Rattle.meaning.specs.Lists.{pick, part, pasted, sameList}
 use Rattle.meaning.specs.Bytes.{Cell, block, countOf, dataOf, state, recorded, lastVersion}
 use Rattle.meaning.specs.Change.{Change, renewed}
+use Rattle.laws.proofs.Numbers.{OfBytes}
 use Rattle.laws.proofs.Inversions.{Sound}
 use Rattle.stretch.specs.declared.Stretch.{Stretch}
 
@@ -47,19 +48,15 @@ putBy e P R d s t = pick (eqb (t .count) 0) [] (renewed e R (state R s) s (leafC
 unfoldable pub writePlan : Edition → (P R heights firsts d : List ℕ) → (offset s : ℕ) → List Change
 writePlan e P R heights firsts d offset s = putBy e P R d s (planOf e P heights firsts d offset s)
 
--- each element is a byte
-abbrev pub Bytes : List ℕ → Type 0
-Bytes l = (i : ℕ) → getD l i 0 < 256
-
 -- what is known of a stretch that changes: it lies in the leaf's bytes and in d, and the block is bytes
 pub record Changing (b d : List ℕ) (t : Stretch) : Type 0 where
   pub leaf : t .within + t .count ≤ countOf b
   pub source : t .from + t .count ≤ length d
-  pub bytes : Bytes b
+  pub bytes : OfBytes b
 
 -- bytes that were compared and found to differ were read: they are bytes
 pub record Compared (same : Bool) (b : List ℕ) : Type 0 where
-  pub bytes : same ≡ false → Bytes b
+  pub bytes : same ≡ false → OfBytes b
 
 -- so much is known of a stretch of a leaf's block, and of one of a slot, if it changes
 pub record Chosen (b d : List ℕ) (t : Stretch) : Type 0 where

@@ -1,7 +1,7 @@
 // The plan of one slot of a write: the stretch of a leaf's bytes that changes. Nothing is written.
 use meaning::Edition;
 ghost use mathlib.Core.Path.{_≡_};
-ghost use Prim.Native.Nat.{_+_, _-_, _*_, _≤_, _<_, min};
+ghost use Prim.Native.Nat.{_+_, _-_, _*_, _≤_, _<_};
 ghost use lib.ListN.{length};
 ghost use Rattle.meaning.specs.Edition.{Proper};
 ghost use Rattle.meaning.specs.Lists.{part, sameList};
@@ -25,15 +25,6 @@ fn beyond(a: usize, b: usize) -> usize
     a - b
 }
 
-fn least(a: usize, b: usize) -> usize
-    ensures { λ r. ⌜ r ≡ min a b ⌝ }
-{
-    if a < b {
-        return a;
-    }
-    b
-}
-
 fn no_stretch() -> Stretch
     ensures { λ r. ⌜ r ≡ nothing ⌝ }
 {
@@ -50,7 +41,7 @@ fn touched(base: usize, held: usize, offset: usize, size: usize) -> Stretch
 {
     let within = beyond(offset, base);
     let from = beyond(base, offset);
-    let count = least(beyond(held, within), beyond(size, from));
+    let count = number::least(beyond(held, within), beyond(size, from));
     Stretch {
         within: within,
         from: from,

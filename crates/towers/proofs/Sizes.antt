@@ -12,7 +12,8 @@ use Rattle.meaning.specs.Bytes.{countOf}
 use Rattle.meaning.specs.Shape.{leavesFor, most}
 use Rattle.meaning.specs.Resize.{share}
 use Rattle.growth.specs.Forms.{bulk}
-use Rattle.position.proofs.Laws.{pow-rises, bulk-rises, bulk-twice}
+use Rattle.growth.proofs.Steps.{bulk-rises}
+use Rattle.position.proofs.Laws.{pow-rises, bulk-twice}
 use Rattle.rising.proofs.Bounds.{want-power, blob-leaves-fit, blob-blocks-fit, longer-leaves, longer-height, taken-within}
 use Rattle.drawing.specs.declared.Growth.{Growth}
 use Rattle.drawing.specs.Grows.{Grows}

@@ -10,12 +10,12 @@ use Rattle.meaning.specs.Edition.{Proper}
 use Rattle.meaning.specs.Bytes.{countOf, dataOf, childrenOf}
 use Rattle.meaning.specs.Shape.{up, leavesFor}
 use Rattle.meaning.specs.Resize.{share}
-use Rattle.laws.proofs.Numbers.{part-length}
+use Rattle.laws.proofs.Numbers.{part-length, OfBytes}
 use Rattle.laws.proofs.Codec.{rowOf}
 use Rattle.growth.specs.Cuts.{cutRow}
 use Rattle.growth.specs.Forms.{places}
 use Rattle.payload.specs.declared.Drawn.{Drawn}
-use Rattle.payload.specs.Draws.{Draws, OfBytes}
+use Rattle.payload.specs.Draws.{Draws}
 use Rattle.payload.proofs.Cells.{drawn-inner, drawn-leaf, children-count}
 use Rattle.payload.proofs.Cells as Cells
 

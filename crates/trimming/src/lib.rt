@@ -2,7 +2,7 @@
 use meaning::Edition;
 use payload::Drawn;
 ghost use mathlib.Core.Path.{_≡_};
-ghost use Prim.Native.Nat.{suc, _+_, _-_, _*_, _^_, _≤_, _<_, min};
+ghost use Prim.Native.Nat.{suc, _+_, _-_, _*_, _^_, _≤_, _<_};
 ghost use lib.ListN.{length, take};
 ghost use Rattle.meaning.specs.Edition.{Proper};
 ghost use Rattle.meaning.specs.Bytes.{countOf, dataOf, childrenOf};
@@ -10,13 +10,6 @@ ghost use Rattle.meaning.specs.Shape.{up, leavesFor, most};
 ghost use Rattle.laws.proofs.Codec.{rowOf};
 ghost use Rattle.growth.specs.Cuts.{cutRow};
 ghost use Rattle.payload.specs.Draws.{Draws};
-
-// The smaller of two numbers.
-fn smaller(a: usize, b: usize) -> usize
-    ensures { λ r. ⌜ r ≡ min a b ⌝ }
-{
-    if a < b { a } else { b }
-}
 
 // An old leaf of a blob that is cut to `short` bytes: it keeps its bytes below the cut.
 fn cut_leaf(e: Edition, short: usize, block: &[u8], payload: &mut [u8], first: usize) -> Drawn
@@ -26,7 +19,7 @@ fn cut_leaf(e: Edition, short: usize, block: &[u8], payload: &mut [u8], first: u
     ensures { λ r. ⌜ Draws e (record { height = 0; row = cutRow e short 0 first (dataOf (now (block .entry))) }) r (now (payload .exit)) ⌝ }
 {
     let count = block::check::count_of(block);
-    let kept = smaller(count, payload::share_of(e, short, first));
+    let kept = number::least(count, payload::share_of(e, short, first));
     payload::copy_payload(payload, block, kept);
     Drawn {
         height: 0,

@@ -1,7 +1,7 @@
 -- Usable slots, one after the other: an equation for each way out of the loops.
 use mathlib.Core.Path.{_≡_, refl, ap, _∙_, sym}
 use mathlib.Core.Bool.{Bool, true, false, not}
-use mathlib.Core.List.{List, [], _∷_, _++_, append-assoc}
+use mathlib.Core.List.{List, [], _∷_, _++_, append-assoc, append-nil}
 use Prim.Native.Nat.{ℕ, zero, suc, _+_, _-_, _^_, _≤_, _<_}
 use native.Mathlib.Numerals.{add-one}
 use native.Mathlib.Omega.{arith}
@@ -91,16 +91,11 @@ pub usable-all : (e : Edition) (n : ℕ) (P R : List ℕ) → usableFrom R 0 n �
 unfolding usableFrom usable
 usable-all e n P R = refl
 
--- nothing after a list
-append-none : (l : List ℕ) → l ++ [] ≡ l
-append-none [] = refl
-append-none (x ∷ l) = ap (λ (m : List ℕ). x ∷ m) (append-none l)
-
 -- listed: a slot is put, or not
 module _ (t : Bool) (slot at : ℕ) (row : List ℕ) where
   pub added-none : not t ≡ true → Added t slot at row at row
   unfolding pick
-  added-none q = record { front = rw (not-true t q) (sym (append-none (take at row))); most = omega arith }
+  added-none q = record { front = rw (not-true t q) (sym (append-nil (take at row))); most = omega arith }
 
   pub added-one : not t ≡ false → at < length row → Added t slot at row (at + 1) (set row at slot)
   unfolding pick
@@ -117,7 +112,7 @@ list-start R row n = lowest-start R n
 
 module _ (R row : List ℕ) (n i k : ℕ) (inv : usableFrom R 0 n ≡ take k row ++ usableFrom R i (n - i)) where
   pub list-end : n ≤ i → take k row ≡ usableFrom R 0 n
-  list-end l = sym (inv ∙ ap (λ (m : List ℕ). take k row ++ m) (from-none R i n l) ∙ append-none (take k row))
+  list-end l = sym (inv ∙ ap (λ (m : List ℕ). take k row ++ m) (from-none R i n l) ∙ append-nil (take k row))
 
   pub list-count : n ≤ i → k ≤ i → i ≤ n → length row ≡ n → k ≡ length (usableFrom R 0 n)
   list-count l few top long = sym (length-take-le k row (omega arith)) ∙ ap length (list-end l)

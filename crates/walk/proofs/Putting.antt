@@ -1,6 +1,6 @@
 -- The row after leaf slots were put into it.
 use mathlib.Core.Path.{_≡_, refl, ap, _∙_, sym}
-use mathlib.Core.List.{List, [], _∷_, _++_, append-assoc}
+use mathlib.Core.List.{List, [], _∷_, _++_, append-assoc, append-nil}
 use Prim.Native.Nat.{ℕ, suc, _+_, _≤_}
 use native.Mathlib.Numerals.{add-one}
 use native.Mathlib.Omega.{arith}
@@ -11,11 +11,7 @@ use Rattle.walk.specs.Noting.{putAll}
 -- what is put from at on stands there
 pub put-there : (l : List ℕ) (at : ℕ) (xs : List ℕ) → at + length xs ≤ length l → take (at + length xs) (putAll l at xs) ≡ take at l ++ xs
 unfolding putAll
-put-there l at [] h = let z : at + 0 ≡ at = omega arith in rw z (sym (append-none (take at l)))
-  where
-    append-none : (a : List ℕ) → a ++ [] ≡ a
-    append-none [] = refl
-    append-none (x ∷ a) = ap (λ (b : List ℕ). x ∷ b) (append-none a)
+put-there l at [] h = let z : at + 0 ≡ at = omega arith in rw z (sym (append-nil (take at l)))
 put-there l at (x ∷ xs) h =
     let z : at + suc (length xs) ≡ at + 1 + length xs = omega arith in
     let k : at + 1 + length xs ≤ length (set l at x) = rw length-set (omega arith) in

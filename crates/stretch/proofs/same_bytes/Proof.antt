@@ -29,7 +29,7 @@ shared-slice-read-if1-2 : tie.Need-shared-slice-read-if1-2 Inv-loop μ-loop
 shared-slice-read-if1-2 c = search needs
 
 returns : tie.Need-returns Inv-loop μ-loop
-returns c = (search left-stop, record { bytes = λ q k. omega (arith, c .before .before .shared-slice-known .given k) })
+returns c = (search left-stop, record { bytes = λ q. record { small = λ k. omega (arith, c .before .before .shared-slice-known .given k) } })
 
 add-i : tie.Need-add-i Inv-loop μ-loop
 add-i c = search needs

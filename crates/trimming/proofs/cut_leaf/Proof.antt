@@ -10,8 +10,8 @@ count-of-requires c κs = search needs
 share-of-requires : tie.Need-share-of-requires
 share-of-requires c κs = search needs
 
-smaller-requires : tie.Need-smaller-requires
-smaller-requires c κs = search needs
+least-requires : tie.Need-least-requires
+least-requires c κs = search needs
 
 copy-payload-requires : tie.Need-copy-payload-requires
 copy-payload-requires c κs = search needs
@@ -31,7 +31,7 @@ cut-leaf-spec =
     (tie.spec
     count-of-requires
     share-of-requires
-    smaller-requires
+    least-requires
     copy-payload-requires
     cast-t12
     same-length
