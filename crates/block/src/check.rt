@@ -38,7 +38,7 @@ fn flaw_of(e: Edition, version: u64, slot: usize, b: &[u8]) -> u64
     ensures { λ r. ⌜ r ≡ flaw e version slot (now (b .entry)) ⌝ }
 {
     let mark = e.mark;
-    if !number::starts_with(b, mark[0], mark[1]) {
+    if !bytewise::starts_with(b, mark[0], mark[1]) {
         return 4;
     }
     let own = number::u32_at(b, 4) as usize;
@@ -108,7 +108,7 @@ fn formed_of(e: Edition, h: usize, root: bool, edge: bool, b: &[u8]) -> bool
     }
     let from = 16 + used_of(e, h, count);
     let to = 16 + e.leaf;
-    number::all_zero(&b[from..to])
+    bytewise::all_zero(&b[from..to])
 }
 
 // Checks 2 and 3 of a block in a slot whose record has that version.

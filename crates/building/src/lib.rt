@@ -37,7 +37,7 @@ pub fn build_block(
     ensures { λ _. ⌜ now (b .exit) ≡ blockBytes e height count slot version (now (payload .entry)) ⌝ }
 {
     let h = header_of(e, height, count, slot, version);
-    number::paste(b, 0, &h);
-    number::paste(b, 16, payload);
-    number::clear_from(b, 16 + payload.len());
+    bytewise::paste(b, 0, &h);
+    bytewise::paste(b, 16, payload);
+    bytewise::clear_from(b, 16 + payload.len());
 }

@@ -63,6 +63,6 @@ pub fn put_free(
     ensures { λ _. ⌜ now (pool .exit) ≡ put (e .size) slot (replicate (e .size) 0) (now (pool .entry)) ⌝ }
     ensures { λ _. ⌜ now (records .exit) ≡ put 12 slot (recordOf 0 version) (now (records .entry)) ⌝ }
 {
-    number::clear(scratch);
+    bytewise::clear(scratch);
     store_slot(e, pool, records, scratch, slot, 0, version);
 }

@@ -38,7 +38,7 @@ fn copy_stretch(
     let leaf = place / e.leaf;
     let b = slot::block_of(e, pool, reading::row::slot_at(row, leaf));
     let end = pos + m;
-    number::fill(&mut out[pos..end], b, 16 + place % e.leaf);
+    bytewise::fill(&mut out[pos..end], b, 16 + place % e.leaf);
     end
 }
 

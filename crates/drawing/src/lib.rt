@@ -32,7 +32,7 @@ fn fresh_inner(
     requires { ⌜ (length (now payload) ≡ e .leaf) × (below < 255) × (e .fan ^ below ≤ 2 ^ 50) × (k ≤ 2 ^ 51) ⌝ }
     ensures { λ r. ⌜ Draws e (freshCell (e .fan) (g .more) (newBytes e (g .length) (g .leaves) (now (free .entry))) (now (free .entry)) (suc below) j k) r (now (payload .exit)) ⌝ }
 {
-    number::clear(payload);
+    bytewise::clear(payload);
     let c = position::places(e.fan, g.more, e.fan, below, j);
     let step = position::bulk(e.fan, below);
     payload::put_slots(payload, 0, free, k + 1, step, c);
@@ -58,7 +58,7 @@ pub fn draw_fresh(
     ensures { λ r. ⌜ Draws e (freshCell (e .fan) (g .more) (newBytes e (g .length) (g .leaves) (now (free .entry))) (now (free .entry)) h j k) r (now (payload .exit)) ⌝ }
 {
     if h == 0 {
-        number::clear(payload);
+        bytewise::clear(payload);
         let share = payload::share_of(e, g.length, g.leaves + j);
         return Drawn {
             height: 0,
@@ -83,7 +83,7 @@ pub fn draw_above(
     requires { ⌜ (length (now payload) ≡ e .leaf) × (h < 255) × (e .fan ^ h ≤ 2 ^ 50) × (b ≤ 2 ^ 51) ⌝ }
     ensures { λ r. ⌜ Draws e (above (e .fan) (g .more) (newBytes e (g .length) (g .leaves) (now (free .entry))) (now (free .entry)) h j b) r (now (payload .exit)) ⌝ }
 {
-    number::clear(payload);
+    bytewise::clear(payload);
     payload::put_slots(payload, 0, free, b, 0, 1);
     let c = position::places(e.fan, g.more, e.fan - 1, h, j);
     let step = position::bulk(e.fan, h);

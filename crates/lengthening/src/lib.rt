@@ -114,7 +114,7 @@ fn keep_root(e: Edition, pool: &[u8], kept: &mut [u8], root: usize)
     requires { ⌜ (e .size * root + e .size ≤ length (now pool)) × (length (now kept) ≡ e .size) ⌝ }
     ensures { λ _. ⌜ now (kept .exit) ≡ block e (now (pool .entry)) root ⌝ }
 {
-    number::fill(kept, slot::block_of(e, pool, root), 0);
+    bytewise::fill(kept, slot::block_of(e, pool, root), 0);
 }
 
 // The blob with that root gets longer. The root's block is kept first, since its slot may be stored before the one that takes its row.

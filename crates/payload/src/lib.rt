@@ -45,8 +45,8 @@ pub fn copy_payload(payload: &mut [u8], block: &[u8], used: usize)
     ensures { λ _. ⌜ now (payload .exit) ≡ padded (length (now (payload .entry))) (part 16 used (now (block .entry))) ⌝ }
     ensures { λ _. ⌜ OfBytes (now (block .entry)) ⌝ }
 {
-    number::clear(payload);
-    number::fill(&mut payload[0..used], block, 16);
+    bytewise::clear(payload);
+    bytewise::fill(&mut payload[0..used], block, 16);
 }
 
 // How many bytes of a length the i-th leaf holds.

@@ -82,7 +82,7 @@ fn close_slot(e: Edition, pool: &[u8], records: &[u8], seen: &[u8], n: usize, i:
 {
     let state = record::state_of(slot::record_of(records, i));
     if state == 0 {
-        if number::all_zero(slot::block_of(e, pool, i)) {
+        if bytewise::all_zero(slot::block_of(e, pool, i)) {
             return Checked::Passed;
         }
         return Checked::Faulty(meaning::refuse_at(9, i));

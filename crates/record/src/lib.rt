@@ -25,7 +25,7 @@ pub fn is_sound(r: &[u8]) -> bool
     requires { ⌜ length (now r) ≡ 12 ⌝ }
     ensures { λ s. ⌜ s ≡ soundRecord (now (r .entry)) ⌝ }
 {
-    if !number::starts_with(r, 0x52, 0x31) {
+    if !bytewise::starts_with(r, 0x52, 0x31) {
         return false;
     }
     let state = state_of(r);

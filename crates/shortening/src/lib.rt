@@ -111,7 +111,7 @@ pub fn keep_left(e: Edition, pool: &[u8], kept: &mut [u8], slot: usize, steps: u
     ensures { λ _. ⌜ now (kept .exit) ≡ block e (now (pool .entry)) (firstBelow e (now (pool .entry)) slot steps) ⌝ }
 {
     let from = left_slot(e, pool, slot, steps);
-    number::fill(kept, slot::block_of(e, pool, from), 0);
+    bytewise::fill(kept, slot::block_of(e, pool, from), 0);
 }
 
 // The blob of height h with that root gets shorter: the block whose row the root takes is kept, since its slot may be freed before the root is stored.

@@ -26,7 +26,7 @@ fn put_in(bytes: &mut [u8], width: usize, slot: usize, new: &[u8])
     requires { ⌜ (width * slot + width ≤ length (now bytes)) × (length (now new) ≡ width) ⌝ }
     ensures { λ _. ⌜ now (bytes .exit) ≡ put width slot (now (new .entry)) (now (bytes .entry)) ⌝ }
 {
-    number::paste(bytes, width * slot, new);
+    bytewise::paste(bytes, width * slot, new);
 }
 
 // A slot's block.
@@ -81,7 +81,7 @@ pub fn store_stretch(
     number::put_u64(pool, start + 8, version);
     let at = start + 16 + within;
     let end = at + count;
-    number::fill(&mut pool[at..end], src, from);
+    bytewise::fill(&mut pool[at..end], src, from);
 }
 
 // Stores a slot's record.

@@ -30,7 +30,7 @@ pub fn wipe_call(e: Edition, pool: &mut [u8], records: &mut [u8]) -> Finished
         return Finished::Refused(meaning::refuse_nowhere(1));
     }
     let n = pool.len() / e.size;
-    number::clear(pool);
+    bytewise::clear(pool);
     free_all(records, n);
     Finished::Done
 }

@@ -1,8 +1,8 @@
 -- The lent part comes back as the new bytes, which is what pasting says.
 use Rattle.laws.proofs.Parts.{paste-back}
 use borrow.Author.Needs.{needs}
-use Rattle.number.proofs.paste.Statement.{statement}
-use Rattle.number.proofs.paste.Tie as tie
+use Rattle.bytewise.proofs.paste.Statement.{statement}
+use Rattle.bytewise.proofs.paste.Tie as tie
 
 add-end : tie.Need-add-end
 add-end c = search needs

@@ -4,8 +4,8 @@ use Prim.Native.Nat.{_-_, _≤_}
 use lib.ListN.{length, take, replicate}
 use borrow.Author.Needs.{needs}
 use Rattle.laws.proofs.Parts.{cleared-more, cleared-whole}
-use Rattle.number.proofs.clear.Statement.{statement}
-use Rattle.number.proofs.clear.Tie as tie
+use Rattle.bytewise.proofs.clear.Statement.{statement}
+use Rattle.bytewise.proofs.clear.Tie as tie
 
 abbrev Inv-loop : tie.InvT-loop
 Inv-loop dst₀ i₀ dst i = (i ≤ length dst₀) × (length dst ≡ length dst₀) × (take i dst ≡ replicate i 0)

@@ -6,9 +6,9 @@ use native.Mathlib.Omega.{arith}
 use borrow.Author.Needs.{needs}
 use Rattle.meaning.specs.Lists.{zeros}
 use Rattle.laws.proofs.Parts.{zeros-end, zeros-stop, zeros-more}
-use Rattle.number.proofs.Zeros.{eight-stop, eight-more}
-use Rattle.number.proofs.all_zero.Statement.{statement}
-use Rattle.number.proofs.all_zero.Tie as tie
+use Rattle.bytewise.proofs.Zeros.{eight-stop, eight-more}
+use Rattle.bytewise.proofs.all_zero.Statement.{statement}
+use Rattle.bytewise.proofs.all_zero.Tie as tie
 
 abbrev Inv-loop : tie.InvT-loop
 Inv-loop s i₀ i = zeros s ≡ zeros (drop i s)

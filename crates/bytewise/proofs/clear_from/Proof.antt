@@ -1,8 +1,8 @@
 -- The lent rest comes back as zeros.
 use Rattle.laws.proofs.Parts.{cleared-back}
 use borrow.Author.Needs.{needs}
-use Rattle.number.proofs.clear_from.Statement.{statement}
-use Rattle.number.proofs.clear_from.Tie as tie
+use Rattle.bytewise.proofs.clear_from.Statement.{statement}
+use Rattle.bytewise.proofs.clear_from.Tie as tie
 
 sub-clear : tie.Need-sub-clear
 sub-clear c = search needs

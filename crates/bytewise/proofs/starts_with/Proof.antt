@@ -1,8 +1,8 @@
 -- The first byte decides, or else the second does.
 use Rattle.laws.proofs.Parts.{starts-not, starts-so}
 use borrow.Author.Needs.{needs}
-use Rattle.number.proofs.starts_with.Statement.{statement}
-use Rattle.number.proofs.starts_with.Tie as tie
+use Rattle.bytewise.proofs.starts_with.Statement.{statement}
+use Rattle.bytewise.proofs.starts_with.Tie as tie
 
 shared-slice-read-if1 : tie.Need-shared-slice-read-if1
 shared-slice-read-if1 c = search needs

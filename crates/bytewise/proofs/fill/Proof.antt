@@ -5,8 +5,8 @@ use lib.ListN.{length, take}
 use borrow.Author.Needs.{needs}
 use Rattle.meaning.specs.Lists.{part}
 use Rattle.laws.proofs.Parts.{copied-more, copied-whole}
-use Rattle.number.proofs.fill.Statement.{statement}
-use Rattle.number.proofs.fill.Tie as tie
+use Rattle.bytewise.proofs.fill.Statement.{statement}
+use Rattle.bytewise.proofs.fill.Tie as tie
 
 abbrev Inv-loop : tie.InvT-loop
 Inv-loop dst₀ src from i₀ dst i = (i ≤ length dst₀) × (length dst ≡ length dst₀) × (take i dst ≡ part from i src)
