@@ -1,22 +1,22 @@
 -- After a wipe: the pool is all zeros and every record is free, so the pool check passes and finds no blob.
 use mathlib.Core.Path.{_≡_, refl, ap, _∙_, sym}
 use mathlib.Core.Bool.{true, false}
-use mathlib.Core.List.{List, [], _∷_, _++_}
-use Prim.Native.Nat.{ℕ, zero, suc, _+_, _*_, _%_, _≤_, _<_}
+use mathlib.Core.List.{List, [], _∷_}
+use Prim.Native.Nat.{ℕ, zero, suc, _*_, _%_, _≤_, _<_}
 use native.Mathlib.Nat.{mul-div-cancel-left, mul-mod-right}
 use native.Mathlib.Omega.{arith}
 use borrow.Author.Tests.{eq-eqb, le-leb}
 use lib.Dec.{eqb, leb}
-use lib.ListN.{length, take, drop, replicate, length-append, length-replicate}
-use lib.Seq.{take-at, drop-append-add}
+use lib.ListN.{length, take, drop, replicate, length-replicate}
 use Rattle.meaning.specs.declared.Edition.{Edition}
 use Rattle.meaning.specs.Lists.{pick, all, part, zeros}
 use Rattle.meaning.specs.Edition.{Proper}
-use Rattle.meaning.specs.Bytes.{block, recordOf, recordAt, state, stateOf}
+use Rattle.meaning.specs.Bytes.{block, state, stateOf}
 use Rattle.meaning.specs.Change.{Store}
 use Rattle.meaning.specs.Calls.{slotsIn, sized, freeRecords, wiped, afterWipe}
 use Rattle.laws.proofs.Inversions.{both-true, true-both, list-zeros}
-use Rattle.laws.proofs.Codec.{record-length, state-read}
+use Rattle.laws.proofs.Codec.{state-read}
+use Rattle.laws.proofs.Free.{free-record, free-length}
 use Rattle.sound.proofs.Slots.{times-none}
 use Rattle.sound.proofs.Pools.{isHead, all-none, Pool}
 use Rattle.sound.proofs.Replaced.{filter-same}
@@ -41,23 +41,7 @@ zeros-drop zero l h = h
 zeros-drop (suc n) [] h = refl
 zeros-drop (suc n) (x ∷ l) h = zeros-drop n l (both-true (eqb x 0) (zeros l) h .1)
 
--- each of n free records is one
-free-record : (n s : ℕ) → s < n → recordAt (freeRecords n) s ≡ recordOf 0 0
-unfolding recordAt freeRecords part
-free-record zero s low = absurd (omega arith)
-free-record (suc n) zero low = take-at (recordOf 0 0) (freeRecords n) 12 (record-length 0 0)
-free-record (suc n) (suc s) low =
-    let q : 12 * suc s ≡ length (recordOf 0 0) + 12 * s = omega (arith, record-length 0 0) in
-    ap (λ (k : ℕ). take 12 (drop k (recordOf 0 0 ++ freeRecords n))) q
-    ∙ ap (take 12) (drop-append-add (recordOf 0 0) (freeRecords n) (12 * s)) ∙ free-record n s (omega arith)
-
--- they are twelve bytes each
-free-length : (n : ℕ) → length (freeRecords n) ≡ 12 * n
-unfolding freeRecords
-free-length zero = refl
-free-length (suc n) = length-append (recordOf 0 0) (freeRecords n) ∙ omega (arith, free-length n, record-length 0 0)
-
--- and of state free
+-- each of n free records is of state free
 free-state : (n s : ℕ) → s < n → state (freeRecords n) s ≡ 0
 unfolding state
 free-state n s low = ap stateOf (free-record n s low) ∙ state-read 0 0

@@ -1,5 +1,5 @@
 -- The audit's answer: an equation for each way out, and the count of live slots, one after the other.
-use mathlib.Core.Path.{_≡_, refl, ap, _∙_, sym}
+use mathlib.Core.Path.{_≡_, ap, _∙_, sym}
 use mathlib.Core.Bool.{Bool, true, false, not}
 use mathlib.Core.List.{List, [], _∷_}
 use Prim.Native.Nat.{ℕ, suc, _+_, _-_, _≤_, _<_}
@@ -25,7 +25,7 @@ use Rattle.walk.specs.declared.Walked.{Walked}
 use Rattle.walk.specs.declared.Walked.the-variants.{Fault, Fine}
 use Rattle.walk.specs.Noting.{met}
 use Rattle.pool.specs.Naming.{noteNamed, kept, poolNoted}
-use Rattle.reading.proofs.Answering.{noted-fault, noted-fine}
+use Rattle.walk.proofs.Answering.{noted-fault, noted-fine}
 use Rattle.auditing.specs.Counting.{liveFrom}
 
 -- refusals 1 and 2, or what is answered behind them

@@ -1,21 +1,19 @@
 -- A loop over the slots against a list of changes: one turn makes the changes of one slot, and what is left is as at the start.
 use mathlib.Core.Path.{_≡_, refl, ap, _∙_, sym}
-use mathlib.Core.List.{List, [], _∷_, _++_, map}
+use mathlib.Core.List.{List, [], _∷_, _++_}
 use mathlib.Core.Logic.{_⊎_, inl, inr}
 use Prim.Native.Nat.{ℕ, zero, suc, _+_, _-_, _*_, _≤_, _<_}
-use native.Mathlib.Nat.{mul-comm}
 use native.Mathlib.Numerals.{add-one}
 use native.Mathlib.Omega.{arith}
-use lib.ListN.{length, take, drop, length-append, length-replicate, replicate}
+use lib.ListN.{length, take, drop, replicate}
 use lib.Seq.{drop-drop}
-use Rattle.meaning.specs.Lists.{part, pasted, joined, range}
-use Rattle.meaning.specs.Edition.{Proper}
+use Rattle.meaning.specs.Lists.{part, joined, range}
 use Rattle.meaning.specs.Bytes.{block, blockBytes, recordAt, recordWith, recordOf}
-use Rattle.meaning.specs.Change.{Change, Store, put, puts, changed, changes, changedBy}
+use Rattle.meaning.specs.Change.{Change, put, puts, changed, changes}
 use Rattle.meaning.specs.Tree.{Held}
 use Rattle.meaning.specs.declared.Edition.{Edition}
 use Rattle.laws.proofs.Parts.{pasted-length, drop-pasted}
-use Rattle.laws.proofs.Codec.{padded-length, record-length}
+use Rattle.laws.proofs.Codec.{padded-length}
 use Rattle.visit.proofs.Laws.{slot-fits}
 use Rattle.change.specs.Places.{Places}
 use Rattle.change.specs.Turns.{over, Turning}
@@ -31,12 +29,7 @@ pub places-kept : (e : Edition) (P R scratch P′ R′ scratch′ : List ℕ) (s
 places-kept e P R scratch P′ R′ scratch′ s p lp lr ls =
     record { block = omega (arith, p .block); line = omega (arith, p .line); scratch = ls ∙ p .scratch }
 
--- changes one after the other
-pub puts-append : (w : ℕ) (f : Change → List ℕ) (a b : List Change) (l : List ℕ) → puts w f (a ++ b) l ≡ puts w f b (puts w f a l)
-unfolding puts
-puts-append w f [] b l = refl
-puts-append w f (c ∷ a) b l = puts-append w f a b (put w (c .slot) (f c) l)
-
+-- the changes of the slots from i on
 pub over-none : (plan : ℕ → List Change) (i n : ℕ) → n ≤ i → over plan i (n - i) ≡ []
 unfolding over joined range
 over-none plan i n h = let z : n - i ≡ 0 = omega arith in rw z

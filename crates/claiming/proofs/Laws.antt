@@ -37,7 +37,7 @@ use Rattle.usable.proofs.Laws.{usable-all}
 use Rattle.change.specs.Places.{Places}
 use Rattle.change.specs.Turns.{over}
 use Rattle.change.proofs.Laws.{changes-over}
-use Rattle.reading.proofs.Answering.{noted-fault, noted-fine}
+use Rattle.walk.proofs.Answering.{noted-fault, noted-fine}
 
 le-but : (i s : ℕ) → i ≤ s → (i ≡ s → ⊥) → suc i ≤ s
 le-but i s a z = omega arith

@@ -21,7 +21,7 @@ use Rattle.growth.specs.Room.{Every}
 use Rattle.growth.proofs.Resized.{Standing, walk-standing}
 
 -- the numbers of a range are below its end
-range-below : (from n end : ℕ) → from + n ≤ end → Every (λ s. s < end) (range from n)
+pub range-below : (from n end : ℕ) → from + n ≤ end → Every (λ s. s < end) (range from n)
 unfolding range
 range-below from zero end fits = tt
 range-below from (suc n) end fits = (omega arith, range-below (suc from) n end (omega arith))

@@ -32,7 +32,7 @@ every-weaker P Q f [] a = tt
 every-weaker P Q f (x ∷ l) a = (f x (a .0), every-weaker P Q f l (a .1))
 
 -- of two lists
-every-append : {A : Type 0} (P : A → Type 0) (l m : List A) → Every P l → Every P m → Every P (l ++ m)
+pub every-append : {A : Type 0} (P : A → Type 0) (l m : List A) → Every P l → Every P m → Every P (l ++ m)
 every-append P [] m a b = b
 every-append P (x ∷ l) m a b = (a .0, every-append P l m (a .1) b)
 

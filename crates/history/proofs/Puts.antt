@@ -1,53 +1,23 @@
 -- What a list of changes makes of each slot. The changes of a call name each slot at most once, so a slot's bytes afterwards are those of
 -- its own change, if it has one, and otherwise as before; blocks and records alike, since both are slots of one width.
-use mathlib.Core.Path.{_≡_, refl, sym, ap, _∙_}
+use mathlib.Core.Path.{_≡_, refl, ap, _∙_}
 use mathlib.Core.Bool.{Bool, true, false}
-use mathlib.Core.List.{List, [], _∷_, _++_}
+use mathlib.Core.List.{List, [], _∷_}
 use Prim.Native.Nat.{ℕ, zero, suc, _+_, _*_, _≤_, _<_}
 use native.Mathlib.Omega.{arith}
 use native.Mathlib.Nat.{mul-le-mul-left}
-use borrow.Author.Tests.{eqb-true, eqb-false, ltb-true, ltb-false}
-use lib.Dec.{eqb, ltb}
+use borrow.Author.Tests.{eqb-true, eqb-false}
+use lib.Dec.{eqb}
 use lib.ListN.{length, length-replicate}
 use Rattle.meaning.specs.declared.Edition.{Edition}
 use Rattle.meaning.specs.Lists.{pick, part, range}
 use Rattle.meaning.specs.Bytes.{sameCell}
 use Rattle.meaning.specs.Tree.{Held, nothing, just}
-use Rattle.meaning.specs.Change.{Change, put, puts, freed, renewed, changed, changes}
-use Rattle.laws.proofs.Parts.{pasted-length, part-pasted, part-pasted-before, part-pasted-after}
+use Rattle.meaning.specs.Change.{Change, puts, freed, renewed, changed, changes}
+use Rattle.laws.proofs.Puts.{put-same, put-length, put-other, puts-append}
 use Rattle.laws.proofs.Codec.{encoded-length, record-length}
 use Rattle.laws.proofs.Inversions.{by-test}
 use Rattle.history.proofs.Slots.{Each}
-
--- new bytes in the place of slot s
-module _ (w s : ℕ) (new l : List ℕ) (wide : length new ≡ w) (fits : w * s + w ≤ length l) where
-  -- they lie within the list
-  within : w * s + length new ≤ length l
-  within = rw wide fits
-
-  -- are found there
-  put-same : part (w * s) w (put w s new l) ≡ new
-  unfolding put
-  put-same = ap (λ (n : ℕ). part (w * s) n (put w s new l)) (sym wide) ∙ part-pasted (w * s) new l within
-
-  -- leave the length
-  put-length : length (put w s new l) ≡ length l
-  unfolding put
-  put-length = pasted-length (w * s) new l within
-
-  -- and every other slot
-  put-other : (x : ℕ) → (x ≡ s → ⊥) → part (w * x) w (put w s new l) ≡ part (w * x) w l
-  unfolding put
-  put-other x d =
-      by-test (ltb x s)
-      (λ t.
-      let m : w * suc x ≤ w * s = mul-le-mul-left w (ltb-true x s t) in
-      part-pasted-before (w * s) new l within (w * x) w (omega arith))
-      (λ t.
-      let o : s ≤ x = ltb-false x s t in
-      let h : suc s ≤ x = omega arith in
-      let m : w * suc s ≤ w * x = mul-le-mul-left w h in
-      part-pasted-after (w * s) new l within (w * x) w (omega arith))
 
 -- what at most one change makes of a slot's bytes
 unfoldable pub settled : (Change → List ℕ) → List Change → List ℕ → List ℕ
@@ -99,12 +69,6 @@ module _ (e : Edition) (R : List ℕ) (taken : ℕ) (old new : ℕ → Held) (w 
   abbrev run : (from n : ℕ) → List Change
   run from n = changes e R taken old new (range from n)
 
-  -- changes in two lists
-  puts-append : (cs ds : List Change) (l : List ℕ) → puts w field (cs ++ ds) l ≡ puts w field ds (puts w field cs l)
-  unfolding puts
-  puts-append [] ds l = refl
-  puts-append (c ∷ cs) ds l = puts-append cs ds _
-
   -- a slot of N lies within the list
   inside : (s : ℕ) (l : List ℕ) → s < N → length l ≡ w * N → w * s + w ≤ length l
   inside s l h k = let m : w * suc s ≤ w * N = mul-le-mul-left w h in omega arith
@@ -135,7 +99,7 @@ module _ (e : Edition) (R : List ℕ) (taken : ℕ) (old new : ℕ → Held) (w 
   unfolding changes range puts
   run-length zero from l h k = k
   run-length (suc n) from l h k =
-      rw (puts-append (here from) (run (suc from) n) l)
+      rw (puts-append w field (here from) (run (suc from) n) l)
       (run-length n (suc from) _ (omega arith) (one-length from (here from) l (single e R taken from _ _) (omega arith) (wide from) k))
 
   -- and the slots below
@@ -144,7 +108,7 @@ module _ (e : Edition) (R : List ℕ) (taken : ℕ) (old new : ℕ → Held) (w 
   unfolding changes range puts
   run-below zero from x l h k b = refl
   run-below (suc n) from x l h k b =
-      rw (puts-append (here from) (run (suc from) n) l)
+      rw (puts-append w field (here from) (run (suc from) n) l)
       (run-below n (suc from) x _ (omega arith) (one-length from (here from) l (single e R taken from _ _) (omega arith) (wide from) k) (omega arith)
       ∙ one-other from x (here from) l (single e R taken from _ _) (omega arith) (wide from) k (omega arith))
 
@@ -155,7 +119,7 @@ module _ (e : Edition) (R : List ℕ) (taken : ℕ) (old new : ℕ → Held) (w 
   run-at zero from x l h k b c = absurd (omega arith)
   run-at (suc n) from x l h k b c =
       let k′ = one-length from (here from) l (single e R taken from _ _) (omega arith) (wide from) k in
-      rw (puts-append (here from) (run (suc from) n) l)
+      rw (puts-append w field (here from) (run (suc from) n) l)
       (by-test (eqb x from)
       (λ t. rw (eqb-true x from t)
       (run-below n (suc from) from _ (omega arith) k′ (omega arith)

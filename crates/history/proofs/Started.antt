@@ -2,23 +2,24 @@
 -- moment of every run.
 use mathlib.Core.Path.{_≡_, refl, sym, ap, subst, _∙_}
 use mathlib.Core.Bool.{true}
-use mathlib.Core.List.{List, _++_, List·Memᴰ}
-use Prim.Native.Nat.{ℕ, zero, suc, _+_, _-_, _*_, _%_, _≤_, _<_}
+use mathlib.Core.List.{List, List·Memᴰ}
+use Prim.Native.Nat.{ℕ, suc, _+_, _-_, _*_, _%_, _≤_, _<_}
 use native.Mathlib.Omega.{arith}
 use native.Mathlib.Nat.{mul-le-mul-left, mul-mod-right, div-add-mod}
 use borrow.Author.Tests.{eqb-true, leb-true, eq-eqb, le-leb}
 use lib.Dec.{eqb, leb}
-use lib.ListN.{length, getD, take, drop, replicate, length-append, length-replicate, replicate-append-replicate}
-use lib.Seq.{take-at, drop-at, drop-append-add}
+use lib.ListN.{length, getD, take, drop, replicate, length-replicate, replicate-append-replicate}
+use lib.Seq.{take-at, drop-at}
 use Rattle.meaning.specs.declared.Edition.{Edition}
 use Rattle.meaning.specs.Lists.{pick, part, sameList}
 use Rattle.meaning.specs.Edition.{Proper}
-use Rattle.meaning.specs.Bytes.{block, recordAt, recordOf, soundRecord}
+use Rattle.meaning.specs.Bytes.{block, soundRecord}
 use Rattle.meaning.specs.Walk.{flaw}
 use Rattle.meaning.specs.Change.{Store}
 use Rattle.meaning.specs.Calls.{slotsIn, sized, freeRecords, wiped, afterWipe}
 use Rattle.meaning.specs.Run.{Call, perform, run}
-use Rattle.laws.proofs.Codec.{record-length, record-kept, state-of, recorded-of, blank-flaw}
+use Rattle.laws.proofs.Free.{free-record, free-length}
+use Rattle.laws.proofs.Codec.{record-kept, state-of, recorded-of, blank-flaw}
 use Rattle.laws.proofs.Inversions.{by-test, both-true, true-both, same-list}
 use Rattle.history.proofs.Local.{unlike, Told}
 use Rattle.history.proofs.Stepped.{Next, Settled}
@@ -37,22 +38,6 @@ part-zeros a w n h =
     split : _≡_ {A = List ℕ} (replicate n 0) (replicate (a + (w + (n - (a + w)))) 0)
     split = let z : n ≡ a + (w + (n - (a + w))) = omega arith in ap (λ (n : ℕ). replicate n 0) z
 
--- the free records of a wiped store
-free-at : (N x : ℕ) → x < N → recordAt (freeRecords N) x ≡ recordOf 0 0
-unfolding freeRecords recordAt part
-free-at zero x h = absurd (omega arith)
-free-at (suc N) zero h = take-at (recordOf 0 0) (freeRecords N) 12 (record-length 0 0)
-free-at (suc N) (suc x) h =
-    let z : 12 * suc x ≡ length (recordOf 0 0) + 12 * x = omega (arith, record-length 0 0) in
-    ap (λ (n : ℕ). take 12 (drop n (recordOf 0 0 ++ freeRecords N))) z
-    ∙ ap (take 12) (drop-append-add (recordOf 0 0) (freeRecords N) (12 * x)) ∙ free-at N x (omega arith)
-
--- they are as long as N records are
-free-length : (N : ℕ) → length (freeRecords N) ≡ 12 * N
-unfolding freeRecords
-free-length zero = refl
-free-length (suc N) = simp length-append (omega (arith, record-length 0 0, free-length N))
-
 -- a wiped store is settled
 pub wiped-settled : (e : Edition) (N : ℕ) → Settled e N (wiped e N)
 unfolding wiped
@@ -60,8 +45,8 @@ wiped-settled e N =
     record {
       pools = length-replicate (e .size * N) 0;
       lines = free-length N;
-      sound = λ x h. ap soundRecord (free-at N x h) ∙ record-kept 0 0 (omega arith) (omega arith) (λ z. absurd (z refl));
-      small = λ x h. omega (arith, recorded-of (freeRecords N) x 0 0 (free-at N x h) (omega arith));
+      sound = λ x h. ap soundRecord (free-record N x h) ∙ record-kept 0 0 (omega arith) (omega arith) (λ z. absurd (z refl));
+      small = λ x h. omega (arith, recorded-of (freeRecords N) x 0 0 (free-record N x h) (omega arith));
     }
 
 -- and its slots are free and zeros
@@ -69,7 +54,7 @@ pub wiped-kept : (e : Edition) (N x : ℕ) → x < N → Kept e (wiped e N) x
 unfolding wiped block
 wiped-kept e N x h =
     let m : e .size * suc x ≤ e .size * N = mul-le-mul-left (e .size) h in
-    free (state-of (freeRecords N) x 0 0 (free-at N x h)) (part-zeros (e .size * x) (e .size) (e .size * N) (omega arith))
+    free (state-of (freeRecords N) x 0 0 (free-record N x h)) (part-zeros (e .size * x) (e .size) (e .size * N) (omega arith))
 
 -- what good lengths are
 pub record Sized (e : Edition) (N : ℕ) (P R : List ℕ) : Type 0 where

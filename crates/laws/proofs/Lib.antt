@@ -8,6 +8,8 @@ pub mod Shapes
 pub mod Checks
 pub mod Inversions
 pub mod Codec
+pub mod Free
+pub mod Puts
 pub mod Building
 pub mod Roots
 pub mod OneToOne

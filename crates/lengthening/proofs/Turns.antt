@@ -3,7 +3,7 @@
 use mathlib.Core.Path.{_≡_, refl, ap, _∙_, sym}
 use mathlib.Core.Bool.{Bool, true, false}
 use mathlib.Core.List.{List, [], _∷_}
-use mathlib.Core.Logic.{_⊎_, inl, inr}
+use mathlib.Core.Logic.{inl}
 use Prim.Native.Nat.{ℕ, zero, suc, _+_, _*_, _≤_, _<_}
 use native.Mathlib.Numerals.{add-one}
 use native.Mathlib.Omega.{arith}
@@ -11,9 +11,8 @@ use lib.ListN.{length}
 use lib.Seq.{take-all}
 use Rattle.meaning.specs.declared.Edition.{Edition}
 use Rattle.meaning.specs.Lists.{pick, range, filter, part}
-use Rattle.meaning.specs.Bytes.{Cell, block, state, recorded, usableSlot}
+use Rattle.meaning.specs.Bytes.{block, state, recorded, usableSlot}
 use Rattle.meaning.specs.Change.{Change, puts, renewed}
-use Rattle.laws.proofs.Codec.{encoded-length, record-length}
 use Rattle.growth.specs.Slots.{usableBelow}
 use Rattle.visit.proofs.Laws.{slot-fits}
 use Rattle.gate.specs.Gate.{Whole}
@@ -21,6 +20,7 @@ use Rattle.change.specs.Places.{Places}
 use Rattle.change.specs.Turns.{over, Turning}
 use Rattle.change.proofs.Laws.{block-left, record-left, turning-on}
 use Rattle.renewal.specs.Renewal.{renewal}
+use Rattle.renewal.proofs.Single.{Single, pick-single, renewed-single, renewal-single}
 use Rattle.drawing.specs.declared.Growth.{Growth}
 use Rattle.towers.specs.declared.Tower.{Tower}
 use Rattle.towers.specs.Towers.{RootBlock}
@@ -71,24 +71,6 @@ below-start R = refl
 pub below-more : (R : List ℕ) (i below : ℕ) → below ≡ usableBelow R i → (a : Bool) → a ≡ usableSlot R i → (m : ℕ) → m ≡ pick a 1 0
     → below + m ≡ usableBelow R (i + 1)
 below-more R i below eb a ea m em = rw (eb, em, ea) (sym (below-next R i))
-
--- what is planned of a slot is nothing, or one change
-abbrev Single : Edition → ℕ → List Change → Type 0
-Single e s cs =
-    (cs ≡ []) ⊎ ((b : List ℕ) × (line : List ℕ) × (cs ≡ record { slot = s; block = b; line = line } ∷ []) × (length b ≡ e .size) × (length line ≡ 12))
-
-pick-single : (e : Edition) (s : ℕ) (t : Bool) (a b : List Change) → Single e s a → Single e s b → Single e s (pick t a b)
-unfolding pick
-pick-single e s true a b x y = x
-pick-single e s false a b x y = y
-
-renewed-single : (e : Edition) (R : List ℕ) (st s : ℕ) (c : Cell) → Single e s (renewed e R st s c ∷ [])
-unfolding renewed
-renewed-single e R st s c = inr (_, _, refl, encoded-length e c s (recorded R s + 1), record-length st (recorded R s + 1))
-
-renewal-single : (e : Edition) (R : List ℕ) (s : ℕ) (b : List ℕ) (c : Cell) → Single e s (renewal e R s b c)
-unfolding renewal
-renewal-single e R s b c = pick-single e s _ _ _ (inl refl) (renewed-single e R (state R s) s c)
 
 module _ (e : Edition) (g : Growth) (t : Tower) (P₀ R₀ free hs fs kept : List ℕ) (root : ℕ) where
   abbrev plan : ℕ → List Change

@@ -1,4 +1,3 @@
-pub mod Answering
 pub mod Opening
 pub mod Rows
 pub mod Lending

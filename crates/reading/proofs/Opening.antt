@@ -23,7 +23,7 @@ use Rattle.walk.specs.declared.Walked.{Walked}
 use Rattle.walk.specs.declared.Walked.the-variants.{Fault, Fine}
 use Rattle.walk.specs.Noting.{Noted, met, mapFound, putAll, noteLeaves, noteTree, noteBlob, noteRoot}
 use Rattle.reading.specs.Rooted.{openNoted}
-use Rattle.reading.proofs.Answering.{noted-fault, noted-fine}
+use Rattle.walk.proofs.Answering.{noted-fault, noted-fine}
 
 -- flags all zero are of the right length
 pub whole-sized : (e : Edition) (n : ℕ) (P R seen : List ℕ) → Whole e n P R → seen ≡ replicate n 0 → Sized e n P R seen

@@ -19,7 +19,7 @@ use Rattle.growth.specs.Forms.{past}
 use Rattle.growth.proofs.Places.{left-site, left-root, left-step}
 use Rattle.sites.specs.Spelt.{blobAt}
 use Rattle.sites.specs.Known.{Known}
-use Rattle.sites.proofs.Laws.{fours-first}
+use Rattle.walk.proofs.Laws.{fours-first}
 use Rattle.shortening.specs.Starts.{firstBelow}
 
 -- the loop

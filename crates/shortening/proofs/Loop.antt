@@ -1,18 +1,14 @@
 -- The loops over the slots: a slot's turn is planned from pool and records as they were, since from slot i on they still are.
 use mathlib.Core.Path.{_≡_, refl, _∙_}
-use mathlib.Core.Bool.{Bool, true, false}
-use mathlib.Core.Logic.{_⊎_, inl, inr}
-use mathlib.Core.List.{List, [], _∷_}
+use mathlib.Core.Logic.{inl}
+use mathlib.Core.List.{List}
 use Prim.Native.Nat.{ℕ, _+_, _^_, _≤_, _<_}
 use native.Mathlib.Omega.{arith}
-use lib.Dec.{eqb}
-use lib.ListN.{length, getD, length-replicate}
+use lib.ListN.{length, getD}
 use Rattle.meaning.specs.declared.Edition.{Edition}
-use Rattle.meaning.specs.Lists.{pick, both}
 use Rattle.meaning.specs.Edition.{Proper}
-use Rattle.meaning.specs.Bytes.{Cell, block, heightOf, countOf, state, recorded, recordAt, lastVersion}
+use Rattle.meaning.specs.Bytes.{block, state, recorded, recordAt, lastVersion}
 use Rattle.meaning.specs.Change.{Change, puts, freed, renewed}
-use Rattle.laws.proofs.Codec.{encoded-length, record-length}
 use Rattle.visit.proofs.Laws.{slot-fits}
 use Rattle.gate.specs.Gate.{Whole}
 use Rattle.turn.specs.declared.Turn.{Turn}
@@ -21,6 +17,7 @@ use Rattle.change.specs.Places.{Places}
 use Rattle.change.specs.Turns.{Turning}
 use Rattle.change.proofs.Laws.{block-left, record-left, turning-on}
 use Rattle.renewal.specs.Renewal.{renewal}
+use Rattle.renewal.proofs.Single.{Single, pick-single, freed-single, renewal-single}
 use Rattle.cutting.specs.declared.Cut.{Cut}
 use Rattle.cutting.specs.Plans.{Here, Rising, rootEnd, oldEnd, cutPlan}
 
@@ -30,35 +27,14 @@ plan-same : (e : Edition) (c : Cut) (hs fs kept : List ℕ) (root : ℕ) (P R P�
 unfolding cutPlan rootEnd oldEnd renewal renewed freed state recorded
 plan-same e c hs fs kept root P R P₀ R₀ s eb er = rw (eb, er)
 
--- nothing, or one change of slot s
-abbrev Single : Edition → ℕ → List Change → Type 0
-Single e s l = (l ≡ [])
-    ⊎ ((b : List ℕ) × (line : List ℕ) × (l ≡ record { slot = s; block = b; line = line } ∷ []) × (length b ≡ e .size) × (length line ≡ 12))
-
-freed-one : (e : Edition) (R : List ℕ) (s : ℕ) → Single e s (freed e R s ∷ [])
-unfolding freed
-freed-one e R s = inr (_, _, refl, length-replicate (e .size) 0, record-length 0 (recorded R s))
-
-renewal-one : (e : Edition) (R : List ℕ) (s : ℕ) (b : List ℕ) (x : Cell) → Single e s (renewal e R s b x)
-unfolding renewal renewed pick
-renewal-one e R s b x = by (both (eqb (x .height) (heightOf b)) (eqb (length (x .row)) (countOf b)))
-  where
-    by : (q : Bool) → Single e s (pick q [] (renewed e R (state R s) s x ∷ []))
-    by true = inl refl
-    by false = inr (_, _, refl, encoded-length e x s (recorded R s + 1), record-length (state R s) (recorded R s + 1))
-
-pick-one : (e : Edition) (s : ℕ) (q : Bool) (a b : List Change) → Single e s a → Single e s b → Single e s (pick q a b)
-unfolding pick
-pick-one e s true a b x y = x
-pick-one e s false a b x y = y
-
-plan-one : (e : Edition) (c : Cut) (hs fs kept : List ℕ) (root : ℕ) (P R : List ℕ) (s : ℕ) → Single e s (cutPlan e c hs fs kept root P R s)
+-- what is planned of a slot is nothing, or one change
+plan-single : (e : Edition) (c : Cut) (hs fs kept : List ℕ) (root : ℕ) (P R : List ℕ) (s : ℕ) → Single e s (cutPlan e c hs fs kept root P R s)
 unfolding cutPlan
-plan-one e c hs fs kept root P R s =
-    pick-one e s _ _ _ (inl refl)
-    (pick-one e s _ _ _ (renewal-one e R s (block e P s) (rootEnd e c hs fs kept root P R))
-    (pick-one e s _ _ _ (freed-one e R s)
-    (pick-one e s _ _ _ (freed-one e R s) (renewal-one e R s (block e P s) (oldEnd e c hs fs kept root P R s)))))
+plan-single e c hs fs kept root P R s =
+    pick-single e s _ _ _ (inl refl)
+    (pick-single e s _ _ _ (renewal-single e R s (block e P s) (rootEnd e c hs fs kept root P R))
+    (pick-single e s _ _ _ (freed-single e R s)
+    (pick-single e s _ _ _ (freed-single e R s) (renewal-single e R s (block e P s) (oldEnd e c hs fs kept root P R s)))))
 
 -- before turn i
 module _ (e : Edition) (n : ℕ) (c : Cut) (hs fs kept : List ℕ) (root : ℕ) (P₀ R₀ : List ℕ) (i : ℕ) (P R : List ℕ)
@@ -101,7 +77,7 @@ module _ (e : Edition) (n : ℕ) (c : Cut) (hs fs kept : List ℕ) (root : ℕ) 
       → R′ ≡ puts 12 (λ c. c .line) (cutPlan e c hs fs kept root P R i) R → Turning e n (cutPlan e c hs fs kept root P₀ R₀) P₀ R₀ (i + 1) P′ R′
   turn-done w P′ R′ ep er =
       let now = plan-same e c hs fs kept root P R P₀ R₀ i same-block same-record in
-      turning-on e n plan P₀ R₀ i P R t less (w .pool) (w .records) (plan-one e c hs fs kept root P₀ R₀ i) P′ R′ (rw now at ep) (rw now at er)
+      turning-on e n plan P₀ R₀ i P R t less (w .pool) (w .records) (plan-single e c hs fs kept root P₀ R₀ i) P′ R′ (rw now at ep) (rw now at er)
 
 -- a slot has a number of four bytes
 pub turn-small : (e : Edition) (n : ℕ) (P R : List ℕ) → Proper e → Whole e n P R → (i : ℕ) → i < n → i < 2 ^ 32

@@ -15,7 +15,8 @@ use Rattle.visit.proofs.Laws.{slot-fits}
 use Rattle.growth.specs.Room.{Every}
 use Rattle.sites.specs.Spelt.{Fit, blobAt, Inside, treeLeaves, rowLeaves}
 use Rattle.sites.specs.Marks.{Ready, BlockStart, RowStart, SitesStart}
-use Rattle.sites.proofs.Laws.{fours-first, inner-leaves, row-leaves}
+use Rattle.walk.proofs.Laws.{fours-first}
+use Rattle.sites.proofs.Laws.{inner-leaves, row-leaves}
 
 -- a tree's own block fits
 pub inside-fit : (e : Edition) (P : List ℕ) (n h s : ℕ) → Inside e P n h s → Fit e n P h s

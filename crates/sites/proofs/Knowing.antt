@@ -14,15 +14,16 @@ use Rattle.meaning.specs.Lists.{pick, both}
 use Rattle.meaning.specs.Edition.{Proper}
 use Rattle.meaning.specs.Bytes.{state}
 use Rattle.meaning.specs.Tree.{Blob, rootOf, contentOf, leavesOf, lengthOf}
-use Rattle.meaning.specs.Walk.{Found, fault, fine, poolCheck}
+use Rattle.meaning.specs.Walk.{fault, fine, poolCheck}
 use Rattle.meaning.specs.Calls.{Outcome, refused, refuseIf, afterCheck, withBlob, rooted, changing}
 use Rattle.laws.proofs.Inversions.{by-test}
 use Rattle.laws.proofs.Walked.{leafSlots, leaf-slots-length}
 use Rattle.laws.proofs.Roots.{Listed, pool-names-root}
 use Rattle.walk.specs.declared.Walked.{Walked}
 use Rattle.walk.specs.declared.Walked.the-variants.{Fault, Fine}
-use Rattle.walk.specs.Noting.{Noted, met, mapFound, putAll, noteLeaves, noteTree, noteBlob}
+use Rattle.walk.specs.Noting.{Noted, met, putAll, noteLeaves, noteTree, noteBlob}
 use Rattle.pool.specs.Naming.{kept, noteIfNamed, noteNamed, poolNoted}
+use Rattle.walk.proofs.Answering.{noted-fault, noted-fine}
 use Rattle.growth.specs.Sites.{sitesOf}
 use Rattle.growth.proofs.Resized.{Standing}
 use Rattle.growth.proofs.Pools.{pool-standing}
@@ -109,18 +110,6 @@ module _ (e : Edition) (n : ℕ) (P R : List ℕ) {bs : List Blob} {seen : List 
 
     root-met : {A : Type 0} (f : Blob → Outcome A) → withBlob r f bs ≡ f (blobAt e P r)
     root-met f = there .met f ∙ ap f there-is
-
--- the answer of the pool check, turned round
-noted-fault : (g : List Blob → Noted) (f : Refusal) (F : Found (List Blob)) → fault f ≡ mapFound g F → F ≡ fault f
-unfolding mapFound
-noted-fault g f (fault r) e = cc
-noted-fault g f (fine bs seen) e = absurd (let z : _≡_ {A = ℕ} 0 1 = cc in omega arith)
-
-noted-fine : (g : List Blob → Noted) (x : Noted) (sx : List ℕ) (F : Found (List Blob)) → fine x sx ≡ mapFound g F
-    → (bs : List Blob) × (F ≡ fine bs sx) × (x ≡ g bs)
-unfolding mapFound
-noted-fine g x sx (fault r) e = absurd (let z : _≡_ {A = ℕ} 0 1 = cc in omega arith)
-noted-fine g x sx (fine bs seen) e = (bs, cc, cc)
 
 -- behind refusal 3
 rooted-on : (e : Edition) (n : ℕ) (P R : List ℕ) (r : ℕ) → r < n → state R r ≡ 2 → {A : Type 0} (o : Outcome A) → rooted e n P R r o ≡ o

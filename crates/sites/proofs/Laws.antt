@@ -1,14 +1,14 @@
 -- What the code notes against where the blocks stand: an equation for each way out of the block's visit, and for each turn of the row's.
 use mathlib.Core.Path.{_≡_, refl, ap, _∙_, sym}
 use mathlib.Core.List.{List, [], _∷_, _++_, map}
-use Prim.Native.Nat.{ℕ, zero, suc, _+_, _-_, _*_}
+use Prim.Native.Nat.{ℕ, suc, _+_, _-_, _*_}
 use native.Mathlib.Omega.{arith}
 use lib.ListN.{drop, set, length-append}
-use lib.Seq.{drop-drop}
 use Rattle.meaning.specs.declared.Edition.{Edition}
 use Rattle.meaning.specs.Lists.{part, number, joined, fours}
 use Rattle.meaning.specs.Bytes.{block, heightOf, countOf, childrenOf}
 use Rattle.meaning.specs.Tree.{slotOf, leaves}
+use Rattle.walk.proofs.Laws.{fours-first}
 use Rattle.growth.specs.Sites.{Site, counting, sites, sitesOf}
 use Rattle.sites.specs.Spelt.{treeAt, blobAt, treeSites, rowSites, treeLeaves, rowLeaves}
 use Rattle.sites.specs.Marks.{puts, tall, begin, Marked}
@@ -26,16 +26,6 @@ pub record Going (all rest : List (ℕ × Site)) (hs₀ fs₀ hs fs : List ℕ) 
 
 pub row-begun : (all : List (ℕ × Site)) (hs fs : List ℕ) → Going all all hs fs hs fs
 row-begun all hs fs = record { heights = refl; firsts = refl }
-
--- the first of some child slots, from number j on
-pub fours-first : (left j : ℕ) (b : List ℕ) → (left ≡ 0 → ⊥)
-    → fours left (drop (16 + 4 * j) b) ≡ number (part (16 + 4 * j) 4 b) ∷ fours (left - 1) (drop (16 + 4 * (j + 1)) b)
-unfolding fours part
-fours-first zero j b n = absurd (n refl)
-fours-first (suc left) j b n =
-    let p : suc left - 1 ≡ left = omega arith in
-    let q : 16 + 4 * j + 4 ≡ 16 + 4 * (j + 1) = omega arith in
-    rw (p, drop-drop 4 (16 + 4 * j) b, q)
 
 module _ (e : Edition) (P : List ℕ) where
   -- a tree of no height is one leaf, and one of some height its top and then its row

@@ -1,6 +1,6 @@
 -- What the two rows say once a blob's sites are noted in them: no slot stands twice, so each place says where its own block stands.
 use mathlib.Core.Path.{_≡_, refl, ap, ap₂, _∙_, sym, subst}
-use mathlib.Core.List.{List, [], _∷_, _++_, map}
+use mathlib.Core.List.{List, [], _∷_, map}
 use Prim.Native.Nat.{ℕ, zero, suc, _+_, _-_, _*_, _<_}
 use native.Mathlib.Omega.{arith}
 use borrow.Author.Tests.{eqb-true, eqb-false, ne-eqb}
@@ -18,6 +18,7 @@ use Rattle.laws.proofs.Walked.{block-room}
 use Rattle.growth.specs.Room.{Every}
 use Rattle.growth.specs.Sites.{Site, counting, sites, sitesOf, Sited, absent, at, sited, Lacks, Once}
 use Rattle.growth.proofs.Sites.{site-slots}
+use Rattle.growth.proofs.Walks.{every-append}
 use Rattle.sites.specs.Spelt.{Fit, treeAt, blobAt, Inside, siteAt}
 use Rattle.sites.specs.Marks.{puts, tall, begin, Marked}
 use Rattle.sites.specs.Known.{Sites}
@@ -63,10 +64,6 @@ puts-said f (x ∷ xs) l s once low =
 pub record Here (e : Edition) (n : ℕ) (P : List ℕ) (s : ℕ) (x : Site) : Type 0 where
   pub fit : Fit e n P (x .height) s
   pub row : x .row ≡ rowOf (x .height) (block e P s)
-
-every-append : {A : Type 0} (Q : A → Type 0) (xs ys : List A) → Every Q xs → Every Q ys → Every Q (xs ++ ys)
-every-append Q [] ys a b = b
-every-append Q (x ∷ xs) ys a b = (a .0, every-append Q xs ys (a .1) b)
 
 -- a site that is found has what each has
 every-sited : (Q : ℕ → Site → Type 0) (xs : List (ℕ × Site)) (s : ℕ) (x : Site) → Every (λ y. Q (y .0) (y .1)) xs → sited xs s ≡ at x → Q s x

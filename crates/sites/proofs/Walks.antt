@@ -3,7 +3,7 @@ use mathlib.Core.Path.{_≡_, ap, ap₂, _∙_, sym, subst}
 use mathlib.Core.Logic.{_⊎_, inl, inr}
 use mathlib.Core.Bool.{Bool, true}
 use mathlib.Core.List.{List, [], _∷_, map, List·Memᴰ, List·Memᴰ·not-nil, List·Memᴰ·cases-cons}
-use Prim.Native.Nat.{ℕ, zero, suc, _+_, _*_, _^_, _≤_, _<_, min}
+use Prim.Native.Nat.{ℕ, zero, suc, _*_, _^_, _≤_, _<_, min}
 use native.Mathlib.Nat.{pow-le-pow-left}
 use native.Mathlib.Omega.{arith}
 use borrow.Author.Tests.{eqb-true, ltb-true, ltb-false}
@@ -26,6 +26,7 @@ use Rattle.laws.proofs.Heights.{height-least}
 use Rattle.laws.proofs.Shapes.{shaped-height, shaped-blocks}
 use Rattle.laws.proofs.Roots.{walk-root, roots-root, roots-other}
 use Rattle.growth.specs.Room.{Every}
+use Rattle.growth.proofs.Pools.{range-below}
 use Rattle.sites.specs.Spelt.{treeAt, blobAt, Inside}
 use Rattle.sites.specs.Marks.{SitesStart}
 use Rattle.sites.proofs.Bounds.{inside-fit}
@@ -97,12 +98,6 @@ pub record WalkedTo (e : Edition) (N : ℕ) (P R : List ℕ) (b : Blob) : Type 0
   pub flags : length before ≡ N
   pub within : rootOf b < N
   pub root : state R (rootOf b) ≡ 2
-
--- the numbers of a range are below its end
-range-below : (from n end : ℕ) → from + n ≤ end → Every (λ s. s < end) (range from n)
-unfolding range
-range-below from zero end fits = tt
-range-below from (suc n) end fits = (omega arith, range-below (suc from) n end (omega arith))
 
 module _ (e : Edition) (N : ℕ) (P R : List ℕ) where
   -- a walk from a slot found a blob of that slot

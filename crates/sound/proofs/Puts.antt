@@ -1,20 +1,21 @@
 -- What stands at each slot after changes. A put replaces one slot's part and leaves the others; the changes of a call name each slot once at
 -- most, in rising order, so that after all of them each slot holds what its own change puts there, or what it held.
-use mathlib.Core.Path.{_≡_, refl, ap, _∙_, sym}
+use mathlib.Core.Path.{_≡_, refl, ap, _∙_}
 use mathlib.Core.Bool.{Bool, true, false}
 use mathlib.Core.List.{List, [], _∷_, _++_, map, map-append}
 use Prim.Native.Nat.{ℕ, zero, suc, _+_, _*_, _≤_, _<_}
 use native.Mathlib.Nat.{mul-le-mul-left, mul-suc}
 use native.Mathlib.Omega.{arith}
-use borrow.Author.Tests.{eqb-true, eqb-false, ltb-true, ltb-false}
-use lib.Dec.{eqb, ltb}
+use borrow.Author.Tests.{eqb-true, eqb-false}
+use lib.Dec.{eqb}
 use lib.ListN.{length, length-replicate}
 use Rattle.meaning.specs.declared.Edition.{Edition}
-use Rattle.meaning.specs.Lists.{pick, part, pasted, range}
+use Rattle.meaning.specs.Lists.{pick, part, range}
 use Rattle.meaning.specs.Bytes.{sameCell, block, recordAt, state, recorded}
 use Rattle.meaning.specs.Tree.{Held, nothing, just}
 use Rattle.meaning.specs.Change.{Change, Store, put, puts, changedBy, freed, renewed, changed, changes}
-use Rattle.laws.proofs.Parts.{pasted-length, part-pasted, part-pasted-before, part-pasted-after}
+use Rattle.laws.proofs.Puts.{puts-append}
+use Rattle.laws.proofs.Puts as slot
 use Rattle.laws.proofs.Codec.{encoded-length, record-length}
 use Rattle.laws.proofs.Inversions.{by-test}
 use Rattle.resizing.proofs.Slots.{times, times-cons}
@@ -23,33 +24,20 @@ use Rattle.sound.proofs.Slots.{times-none, by-slot, Each, each-none, ea
 -- a put of what is as wide as a slot, at a slot of N
 module _ (w N s : ℕ) (new l : List ℕ) (wide : length new ≡ w) (low : s < N) (long : length l ≡ w * N) where
   -- has its room
-  room : w * s + length new ≤ length l
+  room : w * s + w ≤ length l
   room = omega (arith, mul-le-mul-left w low, mul-suc w s)
 
   -- keeps the length
   pub put-length : length (put w s new l) ≡ length l
-  unfolding put
-  put-length = pasted-length (w * s) new l room
+  put-length = slot.put-length w s new l wide room
 
   -- is found at its slot
   pub put-same : part (w * s) w (put w s new l) ≡ new
-  unfolding put
-  put-same = ap (λ (n : ℕ). part (w * s) n (pasted (w * s) new l)) (sym wide) ∙ part-pasted (w * s) new l room
+  put-same = slot.put-same w s new l wide room
 
   -- and leaves every other slot
   pub put-other : (j : ℕ) → (j ≡ s → ⊥) → part (w * j) w (put w s new l) ≡ part (w * j) w l
-  unfolding put
-  put-other j n =
-      by-test (ltb j s)
-      (λ t. part-pasted-before (w * s) new l room (w * j) w (omega (arith, mul-le-mul-left w (ltb-true j s t), mul-suc w j)))
-      (λ t. let after : suc s ≤ j = omega (arith, ltb-false j s t) in
-      part-pasted-after (w * s) new l room (w * j) w (omega (arith, mul-le-mul-left w after, mul-suc w s)))
-
--- puts of two lists of changes in a row
-puts-append : (w : ℕ) (f : Change → List ℕ) (xs ys : List Change) (l : List ℕ) → puts w f (xs ++ ys) l ≡ puts w f ys (puts w f xs l)
-unfolding puts
-puts-append w f [] ys l = refl
-puts-append w f (x ∷ xs) ys l = puts-append w f xs ys (put w (x .slot) (f x) l)
+  put-other = slot.put-other w s new l wide room
 
 -- no change, or one: of slot s, with a whole block and a whole record
 pub data Single (e : Edition) (s : ℕ) : List Change → Type 0 where

@@ -1,19 +1,17 @@
 -- The code's walk against the definition's: an equation for each way out of the block visit, and for each turn of the row visit.
 -- Bytes and leaves so far go in and come out, so a row's answer is that of its last child, or of the first that fails.
-use mathlib.Core.Path.{_≡_, refl, ap, ap₂, _∙_, sym}
-use mathlib.Core.Bool.{Bool, true, false, not}
+use mathlib.Core.Path.{_≡_, refl, ap, _∙_, sym}
+use mathlib.Core.Bool.{Bool, true, false}
 use mathlib.Core.List.{List, [], _∷_, _++_, map, map-append}
-use Prim.Native.Nat.{ℕ, zero, suc, _+_, _-_, _*_, _≤_, _<_, min}
+use Prim.Native.Nat.{ℕ, zero, suc, _+_, _-_, _*_, min}
 use native.Mathlib.Omega.{arith}
-use native.Mathlib.Numerals.{add-one}
-use borrow.Author.Tests.{eq-eqb, ne-eqb}
+use borrow.Author.Tests.{ne-eqb}
 use lib.Dec.{eqb}
-use lib.ListN.{length, take, drop, set, length-append, length-map}
+use lib.ListN.{length, drop, set, length-append, length-map}
 use lib.Seq.{drop-drop}
 use Rattle.meaning.specs.Lists.{both, part, number, joined, fours}
-use Rattle.meaning.specs.Edition.{Proper}
 use Rattle.meaning.specs.Bytes.{block, heightOf, countOf, dataOf, childrenOf}
-use Rattle.meaning.specs.Tree.{Tree, Blob, content, leaves}
+use Rattle.meaning.specs.Tree.{Tree, content, leaves}
 use Rattle.meaning.specs.Walk.{Found, fault, fine, andThen, isEmpty, oneVisit, row, visit, fromRoot}
 use Rattle.meaning.specs.declared.Edition.{Edition}
 use Rattle.meaning.specs.declared.Refusal.{Refusal}
@@ -21,7 +19,6 @@ use Rattle.meaning.specs.declared.Role.{Role}
 use Rattle.meaning.specs.declared.Role.the-variants.{Root, Child}
 use Rattle.meaning.specs.declared.Checked.{Checked}
 use Rattle.meaning.specs.declared.Checked.the-variants.{Passed, Faulty}
-use Rattle.laws.proofs.Numbers.{part-length}
 use Rattle.visit.specs.Visit as visited
 use Rattle.walk.specs.declared.Walked.{Walked}
 use Rattle.walk.specs.declared.Walked.the-variants.{Fault, Fine}
@@ -90,7 +87,7 @@ notes-cons e N P R w p edge c cs seen b k o =
     (λ seen′. row e N P R (visit e N P R w) p edge cs seen′)
 
 -- the first of some child slots, from number j on
-fours-first : (left j : ℕ) (b : List ℕ) → (left ≡ 0 → ⊥)
+pub fours-first : (left j : ℕ) (b : List ℕ) → (left ≡ 0 → ⊥)
     → fours left (drop (16 + 4 * j) b) ≡ number (part (16 + 4 * j) 4 b) ∷ fours (left - 1) (drop (16 + 4 * (j + 1)) b)
 unfolding fours part
 fours-first zero j b n = absurd (n refl)

@@ -1,19 +1,18 @@
 -- Wipe: the records before slot i are free at version 0, those from i on are as they were; at the end all are.
 use mathlib.Core.Path.{_≡_, refl, ap, _∙_, sym}
 use mathlib.Core.Bool.{Bool, true, false, not}
-use mathlib.Core.List.{List, [], _∷_, _++_, append-assoc, append-nil}
+use mathlib.Core.List.{List, _++_, append-assoc, append-nil}
 use Prim.Native.Nat.{ℕ, zero, suc, _+_, _-_, _*_, _/_, _≤_, _<_}
 use native.Mathlib.Numerals.{add-one}
 use native.Mathlib.Omega.{arith}
 use borrow.Author.Tests.{not-true, not-false}
-use lib.ListN.{length, take, drop, replicate, length-append}
-use lib.Seq.{take-at, take-all}
+use lib.ListN.{length, take, replicate}
+use lib.Seq.{take-all}
 use Rattle.meaning.specs.Lists.{pick, pasted}
-use Rattle.meaning.specs.Edition.{Proper}
 use Rattle.meaning.specs.Bytes.{recordWith, recordOf}
 use Rattle.meaning.specs.Refusals.{nowhere}
-use Rattle.meaning.specs.Change.{Store, put}
-use Rattle.meaning.specs.Calls.{refused, done, refuseIf, slotsIn, sized, wipeCall, freeRecords, wiped, afterWipe}
+use Rattle.meaning.specs.Change.{put}
+use Rattle.meaning.specs.Calls.{refuseIf, slotsIn, sized, wipeCall, freeRecords, wiped, afterWipe}
 use Rattle.meaning.specs.Answers.{finishAnswer, Wipes}
 use Rattle.meaning.specs.declared.Edition.{Edition}
 use Rattle.meaning.specs.declared.Refusal.{Refusal}
@@ -26,11 +25,6 @@ free-more : (i : ℕ) → freeRecords (i + 1) ≡ freeRecords i ++ recordOf 0 0
 unfolding freeRecords
 free-more zero = append-nil (recordOf 0 0)
 free-more (suc i) = rw (add-one) (ap (λ (l : List ℕ). recordOf 0 0 ++ l) (sym (ap freeRecords (add-one i)) ∙ free-more i) ∙ sym (append-assoc (recordOf 0 0) (freeRecords i) (recordOf 0 0)))
-
-free-length : (n : ℕ) → length (freeRecords n) ≡ 12 * n
-unfolding freeRecords
-free-length zero = refl
-free-length (suc n) = length-append (recordOf 0 0) (freeRecords n) ∙ omega (arith, record-length 0 0, free-length n)
 
 free-line : (line : List ℕ) → line ≡ recordWith 0 0 0 → line ≡ recordOf 0 0
 unfolding recordOf
