@@ -3,7 +3,6 @@ use mathlib.Core.Path.{_≡_}
 use mathlib.Core.List.{List, [], _∷_}
 use Prim.Native.Nat.{ℕ}
 use Rattle.meaning.specs.Refusals.{slotNumber}
-use Rattle.meaning.specs.Change.{Store}
 use Rattle.meaning.specs.Calls.{Outcome, wipeCall, afterWipe}
 use Rattle.meaning.specs.Answers.{lengthAnswer, auditAnswer, createAnswer, changeAnswer, finishAnswer, leafAnswer, readOut}
 use Rattle.meaning.specs.Answers.{Said, yields, refuses, lengthSaid, auditSaid, createdSaid, changedSaid, finishedSaid, leafSaid}

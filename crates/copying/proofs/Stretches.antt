@@ -1,6 +1,6 @@
 -- Copying by position: each turn copies one stretch, which lies in one block, behind what is there already.
 use mathlib.Core.Path.{_≡_, refl, ap, _∙_, sym}
-use mathlib.Core.List.{List, [], _∷_, _++_}
+use mathlib.Core.List.{List, _++_}
 use Prim.Native.Nat.{ℕ, _+_, _-_, _*_, _/_, _%_, _≤_, _<_, min}
 use native.Mathlib.Nat.{mod-lt}
 use native.Mathlib.Omega.{arith}
@@ -17,7 +17,7 @@ use Rattle.laws.proofs.Numbers.{part-split, part-length}
 use Rattle.laws.proofs.Parts.{copy-back, lent-length}
 use Rattle.laws.proofs.Building.{take-pasted-to}
 use Rattle.visit.proofs.Laws.{slot-fits}
-use Rattle.copying.specs.Spelling.{spelt, Stretch, Readable, Reading}
+use Rattle.copying.specs.Spelling.{spelt, Stretch, Reading}
 
 -- a place within its payload
 pub within-below : (e : Edition) → Proper e → (p : ℕ) → p % e .leaf < e .leaf

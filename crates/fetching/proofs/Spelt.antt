@@ -16,7 +16,7 @@ use Rattle.laws.proofs.Positions.{blob-content, bytesOf, read-stretch}
 use Rattle.gate.specs.Gate.{Whole}
 use Rattle.reading.proofs.Opening.{Blobbed}
 use Rattle.reading.proofs.Rows.{row-slots}
-use Rattle.copying.specs.Spelling.{spelt, Stretch, Readable, readSpelt}
+use Rattle.copying.specs.Spelling.{spelt, Readable, readSpelt}
 
 leaves-spell : (e : Edition) (P ss : List ℕ) → joined (map (λ l. l .1) (map (leafIn e P) ss)) ≡ joined (map (λ s. dataOf (block e P s)) ss)
 unfolding joined

@@ -1,5 +1,5 @@
 -- A blob that gets no shorter: what the code below asks for, and that what it does is the definition's changes.
-use mathlib.Core.Path.{_≡_, refl, ap, _∙_, sym}
+use mathlib.Core.Path.{_≡_, ap, _∙_}
 use mathlib.Core.List.{List}
 use Prim.Native.Nat.{ℕ, _+_, _-_, _*_, _^_, _≤_, _<_}
 use native.Mathlib.Omega.{arith}
@@ -7,9 +7,9 @@ use lib.ListN.{length}
 use Rattle.meaning.specs.declared.Edition.{Edition}
 use Rattle.meaning.specs.Edition.{Proper}
 use Rattle.meaning.specs.Bytes.{block, heightOf}
-use Rattle.meaning.specs.Shape.{leavesFor, heightFor, total}
-use Rattle.meaning.specs.Tree.{Blob, leavesOf, lengthOf}
-use Rattle.meaning.specs.Change.{Change, puts}
+use Rattle.meaning.specs.Shape.{heightFor}
+use Rattle.meaning.specs.Tree.{Blob}
+use Rattle.meaning.specs.Change.{puts}
 use Rattle.meaning.specs.Calls.{usable}
 use Rattle.laws.proofs.Totals.{total-le, total-ge}
 use Rattle.growth.specs.Cuts.{heightOfLength}

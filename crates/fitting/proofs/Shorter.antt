@@ -1,23 +1,21 @@
 -- A blob that gets shorter: what the code below asks for, and that what it does is the definition's changes.
-use mathlib.Core.Path.{_≡_, refl, ap, _∙_, sym}
+use mathlib.Core.Path.{_≡_, ap, _∙_}
 use mathlib.Core.List.{List}
-use Prim.Native.Nat.{ℕ, _+_, _-_, _*_, _^_, _≤_, _<_}
-use native.Mathlib.Omega.{arith}
+use Prim.Native.Nat.{ℕ, _+_, _-_, _*_, _^_, _≤_}
 use lib.ListN.{length}
 use mir.Syntax.{w64}
 use mir.Val.{Fits}
 use Rattle.meaning.specs.declared.Edition.{Edition}
 use Rattle.meaning.specs.Edition.{Proper}
 use Rattle.meaning.specs.Bytes.{block, heightOf}
-use Rattle.meaning.specs.Shape.{leavesFor, heightFor, total}
+use Rattle.meaning.specs.Shape.{heightFor}
 use Rattle.meaning.specs.Tree.{cellsOf}
-use Rattle.meaning.specs.Change.{Change, puts}
+use Rattle.meaning.specs.Change.{puts}
 use Rattle.meaning.specs.Resize.{resized}
 use Rattle.meaning.specs.Calls.{usable, become}
 use Rattle.growth.specs.Cuts.{heightOfLength}
 use Rattle.visit.proofs.Laws.{slot-fits}
 use Rattle.sites.specs.Spelt.{blobAt}
-use Rattle.cutting.specs.declared.Cut.{Cut}
 use Rattle.shortening.specs.Starts.{CutStart}
 use Rattle.fitting.specs.Found.{resizedTo, Shorter}
 use Rattle.fitting.proofs.Laws.{leaves-totalled}

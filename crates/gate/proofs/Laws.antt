@@ -2,12 +2,12 @@
 use mathlib.Core.Path.{_≡_, refl, ap, _∙_, sym}
 use mathlib.Core.Bool.{Bool, true, false, not}
 use mathlib.Core.List.{List, [], _∷_}
-use Prim.Native.Nat.{ℕ, zero, suc, _+_, _-_, _*_, _/_, _%_, _≤_, _<_}
+use Prim.Native.Nat.{ℕ, suc, _+_, _-_, _*_, _/_, _%_, _≤_, _<_}
 use native.Mathlib.Nat.{div-add-mod'}
 use native.Mathlib.Numerals.{add-one}
 use native.Mathlib.Omega.{arith}
 use borrow.Author.Tests.{eq-eqb, ne-eqb, le-leb, lt-leb, lt-ltb, le-ltb, leb-true, eqb-true, not-true, not-false}
-use lib.Dec.{eqb, ltb, leb}
+use lib.Dec.{eqb, ltb}
 use lib.ListN.{length}
 use Rattle.meaning.specs.Lists.{pick, both, range}
 use Rattle.meaning.specs.Bytes.{recordAt, stateOf, state, soundRecord}
@@ -15,7 +15,7 @@ use Rattle.meaning.specs.Refusals.{at, nowhere}
 use Rattle.meaning.specs.Calls.{Outcome, refused, done, refuseIf, slotsIn, sized, refuseBadRecord, opened}
 use Rattle.meaning.specs.declared.Edition.{Edition}
 use Rattle.meaning.specs.declared.Refusal.{Refusal}
-use Rattle.laws.proofs.Inversions.{never, both-true}
+use Rattle.laws.proofs.Inversions.{both-true}
 use Rattle.gate.specs.declared.Opened.{Opened}
 use Rattle.gate.specs.declared.Opened.the-variants.{Slots, Refused}
 use Rattle.gate.specs.Gate.{gateOf, recordsGate, gate, through, Whole}

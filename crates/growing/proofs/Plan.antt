@@ -27,7 +27,7 @@ use Rattle.renewal.specs.Renewal.{renewal}
 use Rattle.renewal.proofs.Laws.{taken-turned, renewal-turned, renewal-rises}
 use Rattle.drawing.specs.declared.Growth.{Growth}
 use Rattle.towers.specs.declared.Tower.{Tower}
-use Rattle.towers.specs.Towers.{Towers, RootBlock}
+use Rattle.towers.specs.Towers.{Towers}
 use Rattle.growing.specs.Plans.{Spot, Here, Redraws, rootEnd, newEnd, oldEnd, freePlan, growPlan}
 
 -- a blob that gets longer gets no lower

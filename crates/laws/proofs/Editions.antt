@@ -1,6 +1,6 @@
 -- What an edition owes is met by document 01's numbers. It is met too by numbers with a larger payload, more children and room after the payload,
 -- so laws that ask for no more than `Proper` rest on nothing that only the first edition has.
-use mathlib.Core.Path.{_≡_, refl}
+use mathlib.Core.Path.{refl}
 use mathlib.Core.List.{[], _∷_}
 use Prim.Native.Nat.{ℕ, zero, suc, _<_}
 use native.Mathlib.Omega.{arith}

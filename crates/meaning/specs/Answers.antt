@@ -4,7 +4,6 @@ use mathlib.Core.List.{List, [], _∷_}
 use Prim.Native.Nat.{ℕ, _+_, _*_}
 use Rattle.meaning.specs.Lists.{part}
 use Rattle.meaning.specs.Refusals.{slotNumber}
-use Rattle.meaning.specs.Change.{Store}
 use Rattle.meaning.specs.Calls.{Outcome, refused, done, after, wipeCall, afterWipe}
 use Rattle.meaning.specs.declared.Edition.{Edition}
 use Rattle.meaning.specs.declared.Named.the-variants.{Nowhere}

@@ -8,7 +8,7 @@ use Rattle.meaning.specs.Lists.{pick, both, part, pasted, range, filter,
 use Rattle.meaning.specs.Bytes.{Cell, recordAt, recordOf, state, recorded, soundRecord, lastVersion, usableSlot}
 use Rattle.meaning.specs.Tree.{Blob, rootOf, contentOf, leavesOf, cellsOf, slotsOf, lengthOf, held}
 use Rattle.meaning.specs.Shape.{leavesFor, total}
-use Rattle.meaning.specs.Refusals.{at, nowhere, must}
+use Rattle.meaning.specs.Refusals.{at, nowhere}
 use Rattle.meaning.specs.Walk.{Found, fault, fine, blobCheck, poolCheck}
 use Rattle.meaning.specs.Change.{Change, Store, changes, changedBy}
 use Rattle.meaning.specs.Resize.{lowest, refilled, resized}

@@ -1,9 +1,9 @@
 -- Document 01's numbers to try that are marked P, its whole one-slot example, and an example of each refusal: one statement over one list of cases,
 -- which computes. A case is data, read by the function `right` alone.
 use mathlib.Core.Path.{_≡_, refl}
-use mathlib.Core.Bool.{Bool, true, false, not}
-use mathlib.Core.List.{List, [], _∷_, _++_, map}
-use Prim.Native.Nat.{ℕ, zero, suc, _+_, _-_, _*_, _^_}
+use mathlib.Core.Bool.{Bool, true, false}
+use mathlib.Core.List.{List, [], _∷_, _++_}
+use Prim.Native.Nat.{ℕ, _+_, _-_, _^_}
 use lib.Dec.{eqb}
 use lib.ListN.{replicate, set}
 use Rattle.meaning.specs.Lists.{pick, both, part, pasted, joined, range, filter, all, ofLast, mapLast, only, sameList, zeros, number, bytes, padded, fours}
@@ -15,7 +15,7 @@ use Rattle.meaning.specs.Refusals.{refusalOf, at, nowhere, must, first, 
 use Rattle.meaning.specs.Walk.{flaw, used, formed, blockCheck, isRoot, linkCheck, andThen, passing, isEmpty, oneVisit, row, visit, fromRoot, blobCheck, roots, closingCheck, closing, poolCheck}
 use Rattle.meaning.specs.Change.{Store, put, puts, changedBy, freed, renewed, changed, changes}
 use Rattle.meaning.specs.Resize.{lowest, chain, onLast, roomy, hang, raised, addLeaf, addLeaves, lastLeaf, share, shares, lastBytes, longer, keepRow, keep, lower, shorter, resized, along, refill, refilled}
-use Rattle.meaning.specs.Calls.{refuseIf, afterCheck, slotsIn, sized, refuseBadRecord, opened, withBlob, usable, live, rooted, reading, changing, refuseWorn, refusePast, refuseFull, become, lengthOn, lengthIn, readOn, readIn, auditOn, auditIn, createOn, createIn, newBlocks, resizeOn, resizeIn, writeOn, writeIn, lengthCall, readCall, auditCall, createCall, writeCall, resizeCall, after, freeRecords, wiped, afterWipe}
+use Rattle.meaning.specs.Calls.{refuseIf, afterCheck, slotsIn, sized, refuseBadRecord, opened, withBlob, usable, live, rooted, reading, changing, refuseWorn, refusePast, refuseFull, become, lengthOn, lengthIn, readOn, readIn, auditOn, auditIn, createOn, createIn, newBlocks, resizeOn, resizeIn, writeOn, writeIn, lengthCall, readCall, auditCall, createCall, writeCall, resizeCall, after, freeRecords, wiped}
 use Rattle.meaning.specs.Answers.{Said, yields, refuses}
 use Rattle.meaning.specs.Run.{Call, create, audit, write, resize, length, read, saidBy, says, perform}
 use Rattle.meaning.specs.declared.Named.{Named}

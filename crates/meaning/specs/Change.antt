@@ -1,7 +1,6 @@
 -- What a successful call changes: a list of changes (slot, new block, new record), in rising slot order.
-use mathlib.Core.Bool.{Bool, true, false}
 use mathlib.Core.List.{List, [], _∷_, _++_}
-use Prim.Native.Nat.{ℕ, zero, suc, _+_, _*_}
+use Prim.Native.Nat.{ℕ, _+_, _*_}
 use lib.ListN.{replicate}
 use Rattle.meaning.specs.Lists.{pick, pasted}
 use Rattle.meaning.specs.Bytes.{Cell, sameCell, encoded, recordOf, state, recorded}

@@ -1,6 +1,6 @@
 -- Editions: the numbers that document 01 fixes, and what an edition owes for the laws to hold.
 use mathlib.Core.Path.{_≡_}
-use mathlib.Core.List.{List, [], _∷_}
+use mathlib.Core.List.{[], _∷_}
 use Prim.Native.Nat.{ℕ, _+_, _*_, _^_, _≤_, _<_}
 use lib.ListN.{length, getD}
 use Rattle.meaning.specs.declared.Edition.{Edition}

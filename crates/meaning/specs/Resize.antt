@@ -1,10 +1,10 @@
 -- Longer, leaf by leaf; shorter; and the same blocks with other bytes.
-use mathlib.Core.Bool.{Bool, true, false, not}
-use mathlib.Core.List.{List, [], _∷_, _++_, map}
+use mathlib.Core.Bool.{Bool, true, false}
+use mathlib.Core.List.{List, [], _∷_, _++_}
 use Prim.Native.Nat.{ℕ, zero, suc, _+_, _-_, _*_, _^_, min}
 use lib.Dec.{leb, ltb, eqb}
 use lib.ListN.{length, getD, take, drop, replicate}
-use Rattle.meaning.specs.Lists.{pick, both, ofLast, mapLast, only, padded}
+use Rattle.meaning.specs.Lists.{pick, ofLast, mapLast, only, padded}
 use Rattle.meaning.specs.declared.Edition.{Edition}
 use Rattle.meaning.specs.Shape.{leavesFor}
 use Rattle.meaning.specs.Tree.{Tree, Blob, slotOf, atSlot, leaves, contentOf, leavesOf, lengthOf}

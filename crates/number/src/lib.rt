@@ -1,6 +1,6 @@
 // Little-endian numbers in slices of bytes, and the smaller of two numbers.
 ghost use mathlib.Core.Path.{_≡_};
-ghost use Prim.Native.Nat.{_+_, _-_, _≤_, min};
+ghost use Prim.Native.Nat.{_+_, _≤_, min};
 ghost use lib.ListN.{length};
 ghost use Rattle.meaning.specs.Lists.{part, pasted, number, bytes};
 

@@ -1,17 +1,16 @@
 -- The pool check in code: an equation for each way out. Each slot's walk is one step of the definition's walk over all roots.
 use mathlib.Core.Path.{_≡_, refl, ap, _∙_, sym}
-use mathlib.Core.Bool.{Bool, true, false, not}
+use mathlib.Core.Bool.{Bool, true, false}
 use mathlib.Core.List.{List, [], _∷_, _++_}
-use Prim.Native.Nat.{ℕ, zero, suc, _+_, _-_, _*_, _≤_, _<_}
+use Prim.Native.Nat.{ℕ, suc, _+_, _-_, _*_, _≤_, _<_}
 use native.Mathlib.Numerals.{add-one}
 use native.Mathlib.Omega.{arith}
 use borrow.Author.Tests.{eq-eqb, ne-eqb}
-use borrow.Rule.Slice.PartMut.{putMid}
 use lib.Dec.{eqb}
-use lib.ListN.{length, getD, take, drop, replicate}
+use lib.ListN.{length, getD, drop, replicate}
 use Rattle.meaning.specs.Lists.{pick, range, zeros}
 use Rattle.meaning.specs.Bytes.{block, recordAt, stateOf, state}
-use Rattle.meaning.specs.Tree.{Blob, rootOf}
+use Rattle.meaning.specs.Tree.{Blob}
 use Rattle.meaning.specs.Refusals.{at, must, first}
 use Rattle.meaning.specs.Walk.{Found, fault, fine, andThen, passing, fromRoot, roots, closingCheck, closing, poolCheck}
 use Rattle.meaning.specs.declared.Edition.{Edition}

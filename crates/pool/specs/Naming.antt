@@ -5,7 +5,7 @@ use lib.Dec.{eqb}
 use Rattle.meaning.specs.Lists.{pick}
 use Rattle.meaning.specs.Bytes.{state}
 use Rattle.meaning.specs.Tree.{Blob, rootOf}
-use Rattle.meaning.specs.Walk.{Found, fine, andThen, fromRoot, roots, poolCheck}
+use Rattle.meaning.specs.Walk.{Found, fine, fromRoot, roots, poolCheck}
 use Rattle.meaning.specs.declared.Edition.{Edition}
 use Rattle.walk.specs.Noting.{Noted, mapFound, noteBlob}
 

@@ -2,7 +2,7 @@
 -- reader then holds the records of one moment, and a pool in which one block is another of the run's.
 use mathlib.Core.Path.{_≡_, refl}
 use mathlib.Core.Logic.{inr}
-use mathlib.Core.Bool.{Bool, true, not}
+use mathlib.Core.Bool.{Bool, true}
 use mathlib.Core.List.{List, [], _∷_, List·Memᴰ}
 use Prim.Native.Nat.{ℕ, _<_}
 use lib.Dec.{eqb}

@@ -1,6 +1,5 @@
 // One record: its fields, its check, its building.
 ghost use mathlib.Core.Path.{_≡_};
-ghost use Prim.Native.Nat.{_≤_};
 ghost use lib.ListN.{length};
 ghost use Rattle.meaning.specs.Bytes.{recordWith, stateOf, recordedOf, soundRecord};
 

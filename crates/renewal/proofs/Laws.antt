@@ -1,21 +1,20 @@
 -- A turn whose payload was drawn changes what the definitions say of the drawn cell.
-use mathlib.Core.Path.{_≡_, refl, ap, _∙_, sym}
+use mathlib.Core.Path.{_≡_, refl, ap, _∙_}
 use mathlib.Core.Bool.{Bool, true, false}
 use mathlib.Core.List.{List, [], _∷_}
-use Prim.Native.Nat.{ℕ, _+_, _≤_, _<_}
+use Prim.Native.Nat.{ℕ, _+_, _<_}
 use lib.Dec.{eqb}
 use lib.ListN.{length}
 use Rattle.meaning.specs.declared.Edition.{Edition}
 use Rattle.meaning.specs.Lists.{pick, both}
 use Rattle.meaning.specs.Edition.{Proper}
 use Rattle.meaning.specs.Bytes.{Cell, heightOf, countOf, state, recorded, lastVersion, sameCell}
-use Rattle.meaning.specs.Change.{Change, renewed}
-use Rattle.laws.proofs.Inversions.{by-test}
+use Rattle.meaning.specs.Change.{renewed}
 use Rattle.payload.specs.declared.Drawn.{Drawn}
 use Rattle.payload.specs.Draws.{Draws}
 use Rattle.payload.proofs.Cells.{draws-block}
 use Rattle.turn.specs.declared.Turn.{Turn}
-use Rattle.turn.specs.declared.Turn.the-variants.{Stays, Goes, Takes, Renews}
+use Rattle.turn.specs.declared.Turn.the-variants.{Stays, Takes, Renews}
 use Rattle.turn.specs.Turned.{stored, turned, Rises}
 use Rattle.renewal.specs.Renewal.{renewal}
 

@@ -2,7 +2,7 @@
 -- of its old bytes, its root where it was, and no slot that it did not have.
 use mathlib.Core.Path.{_≡_, ap, _∙_}
 use mathlib.Core.Bool.{true}
-use mathlib.Core.List.{[], append-nil}
+use mathlib.Core.List.{append-nil}
 use Prim.Native.Nat.{ℕ, zero, suc, _-_, _*_, _≤_, min}
 use native.Mathlib.Nat.{mul-le-mul-left}
 use native.Mathlib.Omega.{arith}

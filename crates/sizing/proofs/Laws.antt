@@ -1,7 +1,7 @@
 -- What a resize answers: what is reached decides.
 use mathlib.Core.Path.{_≡_, refl, _∙_}
 use mathlib.Core.List.{List}
-use Prim.Native.Nat.{ℕ, _≤_}
+use Prim.Native.Nat.{ℕ}
 use lib.ListN.{length}
 use Rattle.meaning.specs.Calls.{slotsIn, resizeOn, resizeIn, resizeCall}
 use Rattle.meaning.specs.Answers.{changeAnswer, Ends}

@@ -1,9 +1,8 @@
 -- A turn, case by case: what is stored of a slot is what the turn says, and a turn changes nothing or one slot.
 use mathlib.Core.Path.{_≡_, refl, ap, _∙_, sym}
-use mathlib.Core.Bool.{Bool, true, false}
 use mathlib.Core.List.{List, [], _∷_}
 use mathlib.Core.Logic.{_⊎_, inl, inr}
-use Prim.Native.Nat.{ℕ, _+_, _-_, _*_, _^_, _≤_, _<_}
+use Prim.Native.Nat.{ℕ, _+_, _-_, _^_, _≤_, _<_}
 use native.Mathlib.Omega.{arith}
 use borrow.Author.Tests.{eq-eqb, ne-eqb}
 use mir.Syntax.{w64}
@@ -12,7 +11,7 @@ use lib.Dec.{eqb}
 use lib.ListN.{length, replicate, length-replicate}
 use Rattle.meaning.specs.Lists.{pick, both}
 use Rattle.meaning.specs.Bytes.{blockBytes, recordAt, recordOf, stateOf, recordedOf, state, recorded, heightOf, countOf, lastVersion}
-use Rattle.meaning.specs.Change.{Change, put, puts, freed}
+use Rattle.meaning.specs.Change.{put, puts, freed}
 use Rattle.meaning.specs.declared.Edition.{Edition}
 use Rattle.laws.proofs.Codec.{record-length}
 use Rattle.change.proofs.Laws.{built-length}

@@ -5,15 +5,14 @@ use mathlib.Core.List.{List, [], _∷_, _++_, append-assoc, append-nil}
 use Prim.Native.Nat.{ℕ, zero, suc, _+_, _-_, _^_, _≤_, _<_}
 use native.Mathlib.Numerals.{add-one}
 use native.Mathlib.Omega.{arith}
-use borrow.Author.Tests.{eq-eqb, ne-eqb, not-true, not-false}
-use lib.Dec.{eqb, ltb}
+use borrow.Author.Tests.{ne-eqb, not-true, not-false}
+use lib.Dec.{ltb}
 use lib.ListN.{length, getD, take, set, List·getD-eq-default}
 use lib.Seq.{take-suc-set, length-take-le}
 use Rattle.meaning.specs.declared.Edition.{Edition}
 use Rattle.meaning.specs.Lists.{pick, both, range, filter, bytes}
 use Rattle.meaning.specs.Bytes.{recordAt, stateOf, recordedOf, state, recorded, lastVersion, usableSlot}
 use Rattle.meaning.specs.Calls.{usable}
-use Rattle.usable.specs.declared.Free.{Free}
 use Rattle.usable.specs.declared.Free.the-variants.{At, Nowhere}
 use Rattle.usable.specs.Usable.{usableFrom, lowestOf, Added}
 

@@ -1,16 +1,16 @@
 -- One visit in code: an equation for each way out of check 1, and for each way out of the visit.
-use mathlib.Core.Path.{_≡_, refl, ap, _∙_, sym}
-use mathlib.Core.Bool.{Bool, true, false, not}
-use mathlib.Core.List.{List, [], _∷_}
+use mathlib.Core.Path.{_≡_, ap, _∙_, sym}
+use mathlib.Core.Bool.{Bool, true, false}
+use mathlib.Core.List.{List}
 use Prim.Native.Nat.{ℕ, _+_, _*_, _≤_, _<_}
-use native.Mathlib.Nat.{mul-le-mul-left, mul-suc}
+use native.Mathlib.Nat.{mul-le-mul-left}
 use native.Mathlib.Omega.{arith}
 use borrow.Author.Tests.{eq-eqb, ne-eqb, lt-ltb, le-ltb}
 use lib.ListN.{length, getD, set}
 use Rattle.meaning.specs.Lists.{both, part, number}
 use Rattle.meaning.specs.Bytes.{block, recordAt, stateOf, recordedOf, state, recorded}
 use Rattle.meaning.specs.Refusals.{at, must}
-use Rattle.meaning.specs.Walk.{Found, fault, fine, passing, blockCheck, isRoot, linkCheck, oneVisit}
+use Rattle.meaning.specs.Walk.{passing, blockCheck, isRoot, linkCheck, oneVisit}
 use Rattle.meaning.specs.declared.Edition.{Edition}
 use Rattle.meaning.specs.declared.Refusal.{Refusal}
 use Rattle.meaning.specs.declared.Role.{Role}

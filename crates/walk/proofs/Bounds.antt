@@ -1,13 +1,12 @@
 -- What keeps the walk's sums and slots small: each leaf noted is a slot newly flagged, so there are no more leaves than slots.
 use mathlib.Core.Path.{_≡_, refl, ap, _∙_, sym}
 use mathlib.Core.Bool.{Bool}
-use mathlib.Core.List.{List, [], _∷_}
-use Prim.Native.Nat.{ℕ, zero, suc, _+_, _-_, _*_, _^_, _≤_, _<_}
+use mathlib.Core.List.{List}
+use Prim.Native.Nat.{ℕ, _+_, _-_, _*_, _^_, _≤_, _<_}
 use native.Mathlib.Omega.{arith}
-use lib.ListN.{length, getD, set, length-set}
+use lib.ListN.{length, set, length-set}
 use mir.Syntax.{w64}
 use mir.Val.{Fits}
-use Rattle.meaning.specs.Lists.{part}
 use Rattle.meaning.specs.Edition.{Proper}
 use Rattle.meaning.specs.Bytes.{block, countOf, dataOf}
 use Rattle.meaning.specs.Shape.{most}
@@ -17,9 +16,9 @@ use Rattle.meaning.specs.declared.Refusal.{Refusal}
 use Rattle.meaning.specs.declared.Role.{Role}
 use Rattle.meaning.specs.declared.Role.the-variants.{Root, Child}
 use Rattle.meaning.specs.declared.Checked.{Checked}
-use Rattle.meaning.specs.declared.Checked.the-variants.{Passed, Faulty}
+use Rattle.meaning.specs.declared.Checked.the-variants.{Passed}
 use Rattle.laws.proofs.Numbers.{part-length}
-use Rattle.laws.proofs.Checks.{used-fits, leaf-fits, inner-fits, most-leaf, most-inner}
+use Rattle.laws.proofs.Checks.{leaf-fits, inner-fits}
 use Rattle.laws.proofs.Inversions.{Visited, fine-visited, passed-sound, passed-linked}
 use Rattle.visit.specs.Visit as visited
 use Rattle.visit.specs.Visit.{Sized, Within}
@@ -27,7 +26,7 @@ use Rattle.visit.proofs.Laws.{linked-within, slot-fits}
 use Rattle.walk.specs.declared.Walked.{Walked}
 use Rattle.walk.specs.declared.Walked.the-variants.{Fault, Fine}
 use Rattle.laws.proofs.Marks.{marks, marks-set, marks-kept, marks-some, marks-all}
-use Rattle.walk.specs.Noting.{Counted, Small, Fresh, BlockStart, RowStart}
+use Rattle.walk.specs.Noting.{Small, Fresh, BlockStart, RowStart}
 
 -- one leaf more, in a slot newly flagged
 leaf-marked : (n : ℕ) (R seen : List ℕ) (role : Role) (s k : ℕ) → s < length seen → Fresh role k → k ≤ marks seen

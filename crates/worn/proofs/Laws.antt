@@ -3,15 +3,15 @@ use mathlib.Core.Path.{_≡_, refl, ap, _∙_, sym}
 use mathlib.Core.Logic.{_⊎_, inl, inr}
 use mathlib.Core.Bool.{Bool, true, false, not}
 use mathlib.Core.List.{List, [], _∷_, map, List·Memᴰ, List·Memᴰ·head, List·Memᴰ·tail, List·Memᴰ·not-nil, List·Memᴰ·cases-cons}
-use Prim.Native.Nat.{ℕ, zero, suc, _+_, _≤_, _<_}
+use Prim.Native.Nat.{ℕ, _<_}
 use native.Mathlib.Omega.{arith}
-use borrow.Author.Tests.{eq-eqb, ne-eqb, eqb-true, eqb-false, ltb-true, not-true, not-false}
+use borrow.Author.Tests.{eq-eqb, ne-eqb, eqb-true, eqb-false, ltb-true, not-false}
 use lib.Dec.{eqb, ltb}
-use lib.ListN.{length, getD}
+use lib.ListN.{getD}
 use Rattle.meaning.specs.declared.Edition.{Edition}
-use Rattle.meaning.specs.Lists.{pick, both, range, all}
+use Rattle.meaning.specs.Lists.{pick, range, all}
 use Rattle.meaning.specs.Bytes.{recorded, lastVersion}
-use Rattle.meaning.specs.Tree.{Blob, slotsOf}
+use Rattle.meaning.specs.Tree.{slotsOf}
 use Rattle.meaning.specs.Refusals.{nowhere}
 use Rattle.meaning.specs.Calls.{Outcome, refused, refuseIf, refuseWorn}
 use Rattle.laws.proofs.Inversions.{by-test, both-true, true-both}

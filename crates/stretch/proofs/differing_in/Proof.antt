@@ -1,7 +1,6 @@
 -- Nothing touched, or the same bytes: no stretch. Else the touched stretch, which lies in the leaf's bytes.
 use Rattle.stretch.proofs.Laws.{in-block, place-fits}
-use Rattle.stretch.proofs.Laws.{none-touched, chosen-none, in-leaf, in-source, none-differs, some-differs, chosen-some}
-use native.Mathlib.Omega.{arith}
+use Rattle.stretch.proofs.Laws.{none-touched, chosen-none, in-source, none-differs, some-differs, chosen-some}
 use borrow.Author.Needs.{needs}
 use Rattle.stretch.proofs.differing_in.Statement.{statement}
 use Rattle.stretch.proofs.differing_in.Tie as tie

@@ -1,6 +1,6 @@
 -- `leaves` is safe and ends: the loop counts slots up to the end, and both slices keep their lengths.
 use mathlib.Core.Path.{_≡_}
-use Prim.Native.Nat.{_≤_, _-_}
+use Prim.Native.Nat.{_-_}
 use borrow.Author.Needs.{needs}
 use lib.ListN.{length}
 use Rattle.vectors_lay.proofs.leaves.Statement.{statement}

@@ -1,6 +1,6 @@
 -- The loop's invariant: the records passed are free at version 0.
 use borrow.Author.Needs.{needs}
-use mathlib.Core.Path.{_≡_, refl}
+use mathlib.Core.Path.{_≡_}
 use Prim.Native.Nat.{_-_, _*_, _≤_}
 use lib.ListN.{length, take}
 use Rattle.meaning.specs.Calls.{freeRecords}
