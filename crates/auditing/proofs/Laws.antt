@@ -21,11 +21,11 @@ use Rattle.gate.specs.declared.Opened.{Opened}
 use Rattle.gate.specs.declared.Opened.the-variants.{Slots, Refused}
 use Rattle.gate.specs.Gate.{gate}
 use Rattle.gate.proofs.Laws.{gate-barred, gate-behind}
-use Rattle.walk.specs.declared.Walked.{Walked}
-use Rattle.walk.specs.declared.Walked.the-variants.{Fault, Fine}
-use Rattle.walk.specs.Noting.{met}
-use Rattle.pool.specs.Naming.{noteNamed, kept, poolNoted}
-use Rattle.walk.proofs.Answering.{noted-fault, noted-fine}
+use Rattle.noting.specs.declared.Walked.{Walked}
+use Rattle.noting.specs.declared.Walked.the-variants.{Fault, Fine}
+use Rattle.noting.specs.Noting.{met}
+use Rattle.roots.specs.Naming.{noteNamed, kept, poolNoted}
+use Rattle.noting.proofs.Answering.{noted-fault, noted-fine}
 use Rattle.auditing.specs.Counting.{liveFrom}
 
 -- refusals 1 and 2, or what is answered behind them

@@ -14,10 +14,9 @@ use Rattle.meaning.specs.Edition.{Proper}
 use Rattle.meaning.specs.Bytes.{encoded, blockBytes, rowBytes, recordAt, recordOf, recordedOf, recorded, state, usableSlot, lastVersion}
 use Rattle.meaning.specs.Tree.{held}
 use Rattle.meaning.specs.Refusals.{nowhere}
-use Rattle.meaning.specs.Walk.{poolCheck}
 use Rattle.meaning.specs.Change.{Change, put, puts, renewed, changed, changedBy}
 use Rattle.meaning.specs.Resize.{lowest}
-use Rattle.meaning.specs.Calls.{done, refuseIf, afterCheck, usable, refuseFull, become, createOn, createIn, after}
+use Rattle.meaning.specs.Calls.{done, refuseIf, usable, refuseFull, become, createOn, after}
 use Rattle.meaning.specs.Answers.{createAnswer, Ends}
 use Rattle.meaning.specs.declared.Edition.{Edition}
 use Rattle.meaning.specs.declared.Refusal.{Refusal}
@@ -26,10 +25,6 @@ use Rattle.meaning.specs.declared.Created.the-variants as created
 use Rattle.laws.proofs.Inversions.{by-test, both-true}
 use Rattle.gate.specs.Gate.{Whole}
 use Rattle.visit.proofs.Laws.{slot-fits}
-use Rattle.walk.specs.declared.Walked.{Walked}
-use Rattle.walk.specs.declared.Walked.the-variants.{Fault, Fine}
-use Rattle.walk.specs.Noting.{met}
-use Rattle.pool.specs.Naming.{noteNamed, kept, poolNoted}
 use Rattle.usable.specs.declared.Free.{Free}
 use Rattle.usable.specs.declared.Free.the-variants.{At, Nowhere}
 use Rattle.usable.specs.Usable.{usableFrom, lowestOf}
@@ -37,7 +32,6 @@ use Rattle.usable.proofs.Laws.{usable-all}
 use Rattle.change.specs.Places.{Places}
 use Rattle.change.specs.Turns.{over}
 use Rattle.change.proofs.Laws.{changes-over}
-use Rattle.walk.proofs.Answering.{noted-fault, noted-fine}
 
 le-but : (i s : ℕ) → i ≤ s → (i ≡ s → ⊥) → suc i ≤ s
 le-but i s a z = omega arith
@@ -153,18 +147,3 @@ module _ (e : Edition) (p : Proper e) (n : ℕ) (P R : List ℕ) (w : Whole e n 
             pool = ep ∙ rw (en, version-is, outcome);
             records = er′ ∙ rw (version-is, outcome);
           }
-
--- the pool check
-module _ (e : Edition) (n : ℕ) (P R : List ℕ) (named : ℕ) (o : List ℕ) (w : Walked) (sx ox : List ℕ) (ew : met w sx ox ≡ poolNoted e n P R named o) where
-  pub create-fault : (f : Refusal) → w ≡ Fault f → Ends e createAnswer (createIn e n P R) P R (created.Refused f) P R
-  unfolding met poolNoted createIn afterCheck createAnswer after
-  create-fault f ef =
-      let u = noted-fault (noteNamed named (kept 0 0 o)) f (poolCheck e n P R) (rw ef at ew) in
-      record { answer = rw u; pool = rw u; records = rw u }
-
-  pub create-behind : (b k : ℕ) → w ≡ Fine b k → (x : Created) (P′ R′ : List ℕ) → Ends e createAnswer (createOn e n P R []) P R x P′ R′
-      → Ends e createAnswer (createIn e n P R) P R x P′ R′
-  unfolding met poolNoted createIn afterCheck createOn
-  create-behind b k eb x P′ R′ h =
-      let u = noted-fine (noteNamed named (kept 0 0 o)) (record { bytes = b; leaves = k; row = ox }) sx (poolCheck e n P R) (rw eb at ew) in
-      rw (u .1) h

@@ -27,7 +27,7 @@ use Rattle.turn.proofs.Laws.{turns-length}
 use Rattle.drawing.specs.declared.Growth.{Growth}
 use Rattle.towers.specs.declared.Tower.{Tower}
 use Rattle.growing.specs.Plans.{Here, AllHere, growPlan, growPlans}
-use Rattle.cutting.specs.declared.Cut.{Cut}
+use Rattle.cuts.specs.declared.Cut.{Cut}
 use Rattle.cutting.specs.Plans as cut
 use Rattle.stretch.specs.declared.Stretch.{Stretch}
 use Rattle.stretch.specs.Plan.{planOf, putBy, writePlan, Place, Counted}

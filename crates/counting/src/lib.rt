@@ -1,6 +1,6 @@
 // How many slots change, told before any byte is stored: for a blob that gets longer or shorter, for a write and for a delete. Each number is the length
 // of the same list of changes that the loop of its call stores, and nothing is written here.
-use cutting::Cut;
+use cuts::Cut;
 use drawing::Growth;
 use meaning::Edition;
 use towers::Tower;
@@ -14,7 +14,8 @@ ghost use Rattle.change.specs.Turns.{over};
 ghost use Rattle.drawing.specs.Grows.{Grows};
 ghost use Rattle.towers.specs.Towers.{Towers, RootBlock};
 ghost use Rattle.growing.specs.Plans.{AllHere, growPlans};
-ghost use Rattle.cutting.specs.Plans.{Cuts, KeptBlock, Here, cutPlan};
+ghost use Rattle.cuts.specs.Cuts.{Cuts};
+ghost use Rattle.cutting.specs.Plans.{KeptBlock, Here, cutPlan};
 ghost use Rattle.stretch.specs.Plan.{Place, Counted, writePlan};
 ghost use Rattle.freeing.specs.Clear.{clearPlan};
 ghost use Rattle.counting.specs.Plannable.{Plannable};

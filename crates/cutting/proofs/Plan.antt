@@ -5,8 +5,8 @@ use mathlib.Core.List.{List, [], _∷_}
 use Prim.Native.Nat.{ℕ, _-_, _^_, _≤_, _<_}
 use native.Mathlib.Omega.{arith}
 use lib.Dec.{leb, eqb}
-use lib.ListN.{length, getD}
-use borrow.Author.Tests.{eq-eqb, ne-eqb, le-leb, lt-leb}
+use lib.ListN.{getD}
+use borrow.Author.Tests.{eq-eqb, ne-eqb}
 use Rattle.meaning.specs.declared.Edition.{Edition}
 use Rattle.meaning.specs.Lists.{pick, both}
 use Rattle.meaning.specs.Bytes.{block, countOf, lastVersion}
@@ -18,22 +18,9 @@ use Rattle.turn.specs.declared.Turn.{Turn}
 use Rattle.turn.specs.declared.Turn.the-variants.{Stays, Goes}
 use Rattle.turn.specs.Turned.{turned, Rises}
 use Rattle.renewal.specs.Renewal.{renewal}
-use Rattle.cutting.specs.declared.Cut.{Cut}
-use Rattle.cutting.specs.Plans.{Cuts, Here, Rising, goneAt, rootEnd, oldEnd, cutPlan}
-
--- whether a block goes
-module _ (c : Cut) (h first : ℕ) where
-  pub gone-past : c .leaves ≤ first → true ≡ goneAt c h first
-  unfolding goneAt pick
-  gone-past late = rw (le-leb (c .leaves) first late)
-
-  pub gone-off : first < c .leaves → (first ≡ 0 → ⊥) → false ≡ goneAt c h first
-  unfolding goneAt pick both
-  gone-off early off = rw (lt-leb (c .leaves) first early, ne-eqb first 0 off)
-
-  pub gone-left : first < c .leaves → first ≡ 0 → leb (c .top) h ≡ goneAt c h first
-  unfolding goneAt pick both
-  gone-left early left = rw (lt-leb (c .leaves) first early, eq-eqb first 0 left)
+use Rattle.cuts.specs.declared.Cut.{Cut}
+use Rattle.cuts.specs.Cuts.{goneAt}
+use Rattle.cutting.specs.Plans.{Here, Rising, rootEnd, oldEnd, cutPlan}
 
 -- the same twice
 twice : (a b : Bool) (f x : List Change) → pick a f (pick b f x) ≡ pick (pick a true b) f x
@@ -42,9 +29,6 @@ twice true b f x = refl
 twice false b f x = refl
 
 -- numbers that are small enough
-pub cuts-few : (e : Edition) (c : Cut) → Cuts e c → c .leaves ≤ 2 ^ 50
-cuts-few e c q = omega (arith, q .few)
-
 pub none-few : 0 ≤ 2 ^ 50
 none-few = omega arith
 

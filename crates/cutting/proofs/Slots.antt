@@ -34,8 +34,9 @@ use Rattle.change.specs.Turns.{over}
 use Rattle.change.proofs.Laws.{changes-over, over-same}
 use Rattle.renewal.specs.Renewal.{renewal}
 use Rattle.renewal.proofs.Laws.{renewal-same}
-use Rattle.cutting.specs.declared.Cut.{Cut}
-use Rattle.cutting.specs.Plans.{Cuts, cutPlan, rootEnd, oldEnd}
+use Rattle.cuts.specs.declared.Cut.{Cut}
+use Rattle.cuts.specs.Cuts.{Cuts}
+use Rattle.cutting.specs.Plans.{cutPlan, rootEnd, oldEnd}
 
 module _ (e : Edition) (p : Proper e) (n : ℕ) (P R : List ℕ) (r len k : ℕ) (row hs fs : List ℕ) (g : Known e n P R r len k row hs fs) where
   abbrev b : Blob

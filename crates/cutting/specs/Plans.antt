@@ -1,7 +1,6 @@
 -- What a blob that gets shorter makes of each slot, by what code has of it: its noted height and first leaf, its block, and the block whose row the
 -- root takes.
 use mathlib.Core.Path.{_≡_}
-use mathlib.Core.Bool.{Bool, true}
 use mathlib.Core.List.{List, [], _∷_}
 use Prim.Native.Nat.{ℕ, _+_, _-_, _*_, _^_, _≤_, _<_}
 use lib.Dec.{leb, eqb}
@@ -10,21 +9,13 @@ use Rattle.meaning.specs.declared.Edition.{Edition}
 use Rattle.meaning.specs.Lists.{pick, both}
 use Rattle.meaning.specs.Bytes.{Cell, block, countOf, lastVersion}
 use Rattle.meaning.specs.Change.{Change, freed}
-use Rattle.meaning.specs.Shape.{leavesFor, most}
+use Rattle.meaning.specs.Shape.{most}
 use Rattle.laws.proofs.Codec.{rowOf}
-use Rattle.growth.specs.Cuts.{cutRow, heightOfLength}
+use Rattle.growth.specs.Cuts.{cutRow}
 use Rattle.turn.specs.declared.Turn.{Turn}
 use Rattle.turn.specs.Turned.{Rises}
 use Rattle.renewal.specs.Renewal.{renewal}
-use Rattle.cutting.specs.declared.Cut.{Cut}
-
--- c is the numbers of its length
-pub record Cuts (e : Edition) (c : Cut) : Type 0 where
-  pub leaves : c .leaves ≡ leavesFor (e .leaf) (c .length)
-  pub top : c .top ≡ heightOfLength e (c .length)
-  pub few : c .leaves ≤ 2 ^ 40
-  pub low : c .top < 256
-  pub power : e .fan ^ c .top ≤ 2 ^ 50
+use Rattle.cuts.specs.declared.Cut.{Cut}
 
 -- the block whose row the root takes is not too full
 pub record KeptBlock (e : Edition) (c : Cut) (kept : List ℕ) : Type 0 where
@@ -42,10 +33,6 @@ pub record Here (e : Edition) (P hs fs : List ℕ) (s : ℕ) : Type 0 where
 -- a turn of slot s can be carried out if the versions of the blob's slots can rise
 pub record Rising (hs : List ℕ) (s : ℕ) (t : Turn) : Type 0 where
   pub rises : (v : ℕ) → ((getD hs s 0 ≡ 0 → ⊥) → v < lastVersion) → Rises t v
-
--- whether a block of that height and first leaf, which is not the root, goes
-unfoldable pub goneAt : Cut → (h first : ℕ) → Bool
-goneAt c h first = pick (leb (c .leaves) first) true (both (eqb first 0) (leb (c .top) h))
 
 module _ (e : Edition) (c : Cut) (hs fs kept : List ℕ) (root : ℕ) (P R : List ℕ) where
   -- what the root holds in the end

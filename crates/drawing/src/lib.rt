@@ -33,8 +33,8 @@ fn fresh_inner(
     ensures { λ r. ⌜ Draws e (freshCell (e .fan) (g .more) (newBytes e (g .length) (g .leaves) (now (free .entry))) (now (free .entry)) (suc below) j k) r (now (payload .exit)) ⌝ }
 {
     bytewise::clear(payload);
-    let c = position::places(e.fan, g.more, e.fan, below, j);
-    let step = position::bulk(e.fan, below);
+    let c = subtrees::places(e.fan, g.more, e.fan, below, j);
+    let step = subtrees::bulk(e.fan, below);
     payload::put_slots(payload, 0, free, k + 1, step, c);
     Drawn {
         height: (below + 1) as u8,
@@ -85,8 +85,8 @@ pub fn draw_above(
 {
     bytewise::clear(payload);
     payload::put_slots(payload, 0, free, b, 0, 1);
-    let c = position::places(e.fan, g.more, e.fan - 1, h, j);
-    let step = position::bulk(e.fan, h);
+    let c = subtrees::places(e.fan, g.more, e.fan - 1, h, j);
+    let step = subtrees::bulk(e.fan, h);
     payload::put_slots(payload, 1, free, b + 1, step, c);
     Drawn {
         height: (h + 1) as u8,

@@ -24,7 +24,7 @@ fn grown_leaf(e: Edition, long: usize, block: &[u8], payload: &mut [u8], first: 
     ensures { λ r. ⌜ Draws e (record { height = 0; row = padded (share e long first) (dataOf (now (block .entry))) }) r (now (payload .exit)) ⌝ }
 {
     let filled = payload::share_of(e, long, first);
-    payload::copy_payload(payload, block, block::check::count_of(block));
+    payload::copy_payload(payload, block, fields::count_of(block));
     Drawn {
         height: 0,
         count: filled as u8,
@@ -46,10 +46,10 @@ fn put_beside(
     ensures { λ r. ⌜ (r ≡ places (e .fan) (g .more) (e .fan - count) below (room (e .fan) below (g .leaves))) × (r ≤ e .fan - count) ⌝ }
     ensures { λ r. ⌜ now (payload .exit) ≡ pasted (4 * count) (joined (map (bytes 4) (every (now (free .entry)) (bulk (e .fan) below) r (space (e .fan) below (g .leaves))))) (now (payload .entry)) ⌝ }
 {
-    let room = position::room(e.fan, below, g.leaves);
-    let space = position::space(e.fan, below, g.leaves);
-    let c = position::places(e.fan, g.more, e.fan - count, below, room);
-    let step = position::bulk(e.fan, below);
+    let room = edge::room(e.fan, below, g.leaves);
+    let space = edge::space(e.fan, below, g.leaves);
+    let c = subtrees::places(e.fan, g.more, e.fan - count, below, room);
+    let step = subtrees::bulk(e.fan, below);
     payload::put_slots(payload, count, free, space, step, c);
     c
 }
@@ -69,7 +69,7 @@ fn grown_inner(
     requires { ⌜ (length (now block) ≡ e .size) × (countOf (now block) ≤ e .fan) ⌝ }
     ensures { λ r. ⌜ Draws e (record { height = suc below; row = grownRow e (g .length) (g .leaves) (now (free .entry)) (suc below) 0 (childrenOf (now (block .entry))) }) r (now (payload .exit)) ⌝ }
 {
-    let count = block::check::count_of(block);
+    let count = fields::count_of(block);
     payload::copy_payload(payload, block, 4 * count);
     let c = put_beside(e, g, free, payload, count, below);
     Drawn {

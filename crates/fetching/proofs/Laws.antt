@@ -20,9 +20,9 @@ use Rattle.gate.specs.declared.Opened.{Opened}
 use Rattle.gate.specs.declared.Opened.the-variants.{Slots, Refused}
 use Rattle.gate.specs.Gate.{gate, Whole}
 use Rattle.gate.proofs.Laws.{gate-barred, gate-behind}
-use Rattle.walk.specs.declared.Walked.{Walked}
-use Rattle.walk.specs.declared.Walked.the-variants.{Fault, Fine}
-use Rattle.walk.specs.Noting.{met}
+use Rattle.noting.specs.declared.Walked.{Walked}
+use Rattle.noting.specs.declared.Walked.the-variants.{Fault, Fine}
+use Rattle.noting.specs.Noting.{met}
 use Rattle.reading.specs.Rooted.{openNoted}
 use Rattle.reading.proofs.Opening.{Blobbed, open-fault, open-below, open-found, open-reads}
 use Rattle.copying.specs.Spelling.{spelt, Readable, Reading, readSpelt}

@@ -18,7 +18,7 @@ use Rattle.visit.proofs.Laws.{slot-fits}
 use Rattle.sites.specs.Spelt.{blobAt}
 use Rattle.shortening.specs.Starts.{CutStart}
 use Rattle.fitting.specs.Found.{resizedTo, Shorter}
-use Rattle.fitting.proofs.Laws.{leaves-totalled}
+use Rattle.vacancy.proofs.Laws.{leaves-totalled}
 
 module _ (e : Edition) (n : ℕ) (P R : List ℕ) (r : ℕ) (hs fs : List ℕ) (len want : ℕ) (o : Shorter e n P R r hs fs len want) where
   -- the root lies in the pool

@@ -1,31 +1,17 @@
-// Refusal 11; and a blob made shorter or longer, past every refusal: the numbers that are worked out beforehand, then every slot of the blob and
+// A blob made shorter or longer, past every refusal: the numbers that are worked out beforehand, then every slot of the blob and
 // every slot that is taken, rising.
-use cutting::Cut;
+use cuts::Cut;
 use drawing::Growth;
 use meaning::Edition;
 use towers::Tower;
 ghost use mathlib.Core.Path.{_≡_};
-ghost use Prim.Native.Nat.{_+_, _-_, _*_, _^_, _≤_, _<_};
-ghost use lib.Dec.{ltb};
+ghost use Prim.Native.Nat.{_+_, _*_, _^_, _≤_};
 ghost use lib.ListN.{length};
 ghost use Rattle.meaning.specs.Edition.{Proper};
 ghost use Rattle.meaning.specs.Bytes.{block, heightOf};
-ghost use Rattle.meaning.specs.Shape.{leavesFor, total};
 ghost use Rattle.meaning.specs.Change.{puts};
 ghost use Rattle.fitting.specs.Measures.{Measures};
 ghost use Rattle.fitting.specs.Found.{resizedTo, Drafts, Shorter, Longer};
-
-// Refusal 11: whether more new blocks are needed than slots are free.
-pub fn lacks_room(e: Edition, leaves: usize, long: u64, free: usize) -> bool
-    requires { ⌜ Proper e ⌝ }
-    requires { ⌜ (leaves ≤ 2 ^ 32) × (free ≤ 2 ^ 32) ⌝ }
-    ensures { λ r. ⌜ r ≡ ltb free (total (e .fan) (leavesFor (e .leaf) long) - total (e .fan) leaves) ⌝ }
-{
-    let fan = e.fan as u64;
-    let have = shape::block_total(fan, leaves as u64);
-    let need = shape::block_total(fan, shape::leaf_count(e.leaf as u64, long));
-    have + (free as u64) < need
-}
 
 // The numbers of a blob of that height and so many leaves that is to have so many.
 fn tower_of(e: Edition, height: usize, leaves: usize, want: usize) -> Tower
@@ -67,7 +53,7 @@ pub fn shorten(
     ensures { λ _. ⌜ now (records .exit) ≡ puts 12 (λ c. c .line) (resizedTo e n (now (pool .entry)) (now (records .entry)) root short) (now (records .entry)) ⌝ }
 {
     let top = shape::height_for(e.fan as u64, want as u64) as usize;
-    let h = block::check::height_of(slot::block_of(e, pool, root));
+    let h = fields::height_of(slot::block_of(e, pool, root));
     let c = Cut {
         length: short,
         leaves: want,
@@ -96,7 +82,7 @@ fn tower_at(e: Edition, pool: &[u8], root: usize, leaves: usize, want: usize) ->
     requires { ⌜ (leaves ≤ want) × (want ≤ 2 ^ 40) ⌝ }
     ensures { λ r. ⌜ Measures e (heightOf (block e (now (pool .entry)) root)) leaves want r ⌝ }
 {
-    let h = block::check::height_of(slot::block_of(e, pool, root));
+    let h = fields::height_of(slot::block_of(e, pool, root));
     tower_of(e, h, leaves, want)
 }
 

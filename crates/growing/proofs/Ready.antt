@@ -35,7 +35,8 @@ use Rattle.drawing.specs.declared.Growth.{Growth}
 use Rattle.drawing.specs.Grows.{Grows}
 use Rattle.towers.specs.declared.Tower.{Tower}
 use Rattle.towers.specs.Towers.{Towers, RootBlock}
-use Rattle.growing.specs.Plans.{Numbers, Spot, Here, AllHere}
+use Rattle.enlarging.specs.Plans.{Spot}
+use Rattle.growing.specs.Plans.{Numbers, Here, AllHere}
 use Rattle.growing.proofs.Low.{site-low, usable-few}
 
 module _ (e : Edition) (p : Proper e) (n : ℕ) (P R : List ℕ) (r bytes leaves : ℕ) (row hs fs : List ℕ)

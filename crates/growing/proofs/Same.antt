@@ -37,7 +37,9 @@ use Rattle.renewal.specs.Renewal.{renewal}
 use Rattle.renewal.proofs.Laws.{renewal-same}
 use Rattle.drawing.specs.declared.Growth.{Growth}
 use Rattle.towers.specs.declared.Tower.{Tower}
-use Rattle.growing.specs.Plans.{Numbers, rootEnd, newEnd, oldEnd, freePlan, growPlan, growPlans}
+use Rattle.enlarging.specs.Plans.{rootEnd, oldEnd}
+use Rattle.taking.specs.Plans.{newEnd, freePlan}
+use Rattle.growing.specs.Plans.{Numbers, growPlan, growPlans}
 use Rattle.growing.proofs.Ready.{root-row, root-count, root-height, noted-at, noted-height, noted-count, noted-share}
 
 -- the same numbers and the same row make the same root, and the same new block

@@ -33,12 +33,10 @@ pub fn resize_found(
     requires { ⌜ length (now row) ≡ n ⌝ }
     ensures { λ r. ⌜ Ends e changeAnswer (resizeIn e n (now (pool .entry)) (now (records .entry)) root len) (now (pool .entry)) (now (records .entry)) r (now (pool .exit)) (now (records .exit)) ⌝ }
 {
-    if worn::is_worn(records, heights, n) {
-        return Changed::Refused(meaning::refuse_nowhere(12));
-    }
     let free = usable::list(records, row, n);
-    if fitting::lacks_room(e, leaves, len, free) {
-        return Changed::Refused(meaning::refuse_nowhere(11));
+    let number = barring::resize::barred(e, records, heights, n, leaves, len, free);
+    if number != 0 {
+        return Changed::Refused(meaning::refuse_nowhere(number));
     }
     let want = shape::leaf_count(e.leaf as u64, len);
     reshaping::resize_blob(

@@ -1,3 +1,2 @@
 pub mod Shown
-pub mod Handing
 pub mod Laws

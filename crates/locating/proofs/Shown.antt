@@ -17,7 +17,7 @@ use Rattle.laws.proofs.Walked.{leafSlots, leaf-slots-length, LeafBlock, walk-le
 use Rattle.gate.specs.Gate.{Whole}
 use Rattle.reading.proofs.Opening.{Blobbed}
 use Rattle.reading.proofs.Rows.{row-slots}
-use Rattle.locating.specs.Placing.{Below, showSpelt}
+use Rattle.placing.specs.Placing.{Below, showSpelt}
 
 -- a blob that was found, in a row of as many places as there are slots
 module _ (e : Edition) (p : Proper e) (n : ℕ) (P R : List ℕ) (w : Whole e n P R) (r b k : ℕ) (o sx ox : List ℕ)

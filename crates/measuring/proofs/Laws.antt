@@ -12,9 +12,9 @@ use Rattle.gate.specs.declared.Opened.{Opened}
 use Rattle.gate.specs.declared.Opened.the-variants.{Slots, Refused}
 use Rattle.gate.specs.Gate.{gate}
 use Rattle.gate.proofs.Laws.{gate-barred, gate-behind}
-use Rattle.walk.specs.declared.Walked.{Walked}
-use Rattle.walk.specs.declared.Walked.the-variants.{Fault, Fine}
-use Rattle.walk.specs.Noting.{met}
+use Rattle.noting.specs.declared.Walked.{Walked}
+use Rattle.noting.specs.declared.Walked.the-variants.{Fault, Fine}
+use Rattle.noting.specs.Noting.{met}
 use Rattle.reading.specs.Rooted.{openNoted}
 use Rattle.reading.proofs.Opening.{open-fault, open-found, open-reads}
 

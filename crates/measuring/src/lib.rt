@@ -2,7 +2,7 @@
 use gate::Opened;
 use meaning::Edition;
 use meaning::Length;
-use walk::Walked;
+use noting::Walked;
 ghost use mathlib.Core.Path.{_≡_};
 ghost use lib.ListN.{length, replicate};
 ghost use Rattle.meaning.specs.Edition.{Proper};

@@ -1,2 +1,2 @@
--- Laws: the numbers of a longer blob one height lower, and bounds on them.
+-- Laws: seats one height lower, and bounds on them.
 pub mod Laws

@@ -1,11 +1,10 @@
 -- Write inside a blob, need by need: the loop's turns, refusals 12 and 10, and what is noted decides.
-use mathlib.Core.Path.{_≡_, _∙_, sym}
-use mathlib.Core.Bool.{Bool, true, false}
+use mathlib.Core.Path.{_≡_, _∙_}
 use mathlib.Core.List.{List, [], _∷_}
 use mathlib.Core.Logic.{_⊎_, inl, inr}
 use Prim.Native.Nat.{ℕ, _+_, _-_, _*_, _≤_, _<_}
 use native.Mathlib.Omega.{arith}
-use borrow.Author.Tests.{eq-eqb, ne-eqb, lt-ltb, le-ltb}
+use borrow.Author.Tests.{eq-eqb, ne-eqb}
 use lib.Dec.{eqb}
 use lib.ListN.{length}
 use Rattle.meaning.specs.declared.Edition.{Edition}
@@ -21,12 +20,13 @@ use Rattle.laws.proofs.Codec.{encoded-length, record-length}
 use Rattle.laws.proofs.Inversions.{by-test}
 use Rattle.gate.specs.Gate.{Whole}
 use Rattle.visit.proofs.Laws.{slot-fits}
-use Rattle.worn.specs.Worn.{wornAmong}
 use Rattle.change.specs.Turns.{over, Turning}
 use Rattle.change.proofs.Laws.{block-left, record-left, turning-on}
 use Rattle.stretch.specs.Plan.{planOf, stretched, leafCell, putBy, writePlan, Place, Writable}
 use Rattle.rewriting.specs.Unworn.{Unworn}
-use Rattle.putting.specs.Noted.{Leaves, barredBy, writeNoted}
+use Rattle.barring.specs.Barred.{writeBarred}
+use Rattle.barring.proofs.Laws.{write-fresh}
+use Rattle.putting.specs.Noted.{Leaves, writeNoted}
 
 -- the loop: what a slot becomes is planned from pool and records as they were
 module _ (e : Edition) (n : ℕ) (hs fs d : List ℕ) (offset : ℕ) (P₀ R₀ : List ℕ) (i : ℕ) (P R : List ℕ)
@@ -83,28 +83,8 @@ module _ (e : Edition) (n : ℕ) (hs fs d : List ℕ) (offset : ℕ) (P₀ R₀ 
     write-turn P′ R′ ep er =
         turning-on e n plan P₀ R₀ i P R t l (w .pool) (w .records) (plan-one i) P′ R′ (rw planned at ep) (rw planned at er)
 
--- refusals 12 and 10
-module _ (R hs : List ℕ) (n bytes offset size : ℕ) (w : Bool) (ew : w ≡ wornAmong R hs n) where
-  pub barred-worn : w ≡ true → 12 ≡ barredBy R hs n bytes offset size
-  unfolding barredBy pick
-  barred-worn q = rw (← ew, q)
-
-  module _ (q : w ≡ false) where
-    pub barred-before : bytes < offset → 10 ≡ barredBy R hs n bytes offset size
-    unfolding barredBy pick
-    barred-before h = rw (← ew, q, lt-ltb bytes (offset + size) (omega arith))
-
-    module _ (h : offset ≤ bytes) where
-      pub barred-past : bytes - offset < size → 10 ≡ barredBy R hs n bytes offset size
-      unfolding barredBy pick
-      barred-past l = rw (← ew, q, lt-ltb bytes (offset + size) (omega arith))
-
-      pub barred-none : size ≤ bytes - offset → 0 ≡ barredBy R hs n bytes offset size
-      unfolding barredBy pick
-      barred-none l = rw (← ew, q, le-ltb bytes (offset + size) (omega arith))
-
 -- what is noted of the blob decides
-module _ (e : Edition) (n : ℕ) (P R hs fs : List ℕ) (bytes offset : ℕ) (d : List ℕ) (number : ℕ) (en : number ≡ barredBy R hs n bytes offset (length d)) where
+module _ (e : Edition) (n : ℕ) (P R hs fs : List ℕ) (bytes offset : ℕ) (d : List ℕ) (number : ℕ) (en : number ≡ writeBarred R hs n bytes offset (length d)) where
   -- refused with that number
   pub noted-refused : (number ≡ 0 → ⊥) → (q : Refusal) → q ≡ nowhere number
       → Ends e changeAnswer (writeNoted e n P R hs fs bytes offset d) P R (changed.Refused q) P R
@@ -114,16 +94,8 @@ module _ (e : Edition) (n : ℕ) (P R hs fs : List ℕ) (bytes offset : ℕ) (d 
       record { answer = rw (eq, ← en, t); pool = rw (← en, t); records = rw (← en, t) }
 
   module _ (z : number ≡ 0) where
-    -- no refusal: the blob is not worn
-    fresh : wornAmong R hs n ≡ false
-    unfolding barredBy pick
-    fresh =
-        by-test (wornAmong R hs n)
-        (λ t. absurd (let y = rw t at (sym en ∙ z) in omega arith))
-        (λ t. t)
-
     pub noted-leaves : Unworn e n P R hs fs → Leaves e n P R hs fs
-    noted-leaves u = record { heights = u .heights; firsts = u .firsts; each = u .each fresh }
+    noted-leaves u = record { heights = u .heights; firsts = u .firsts; each = u .each (write-fresh R hs n bytes offset (length d) number en z) }
 
     pub noted-done : (P′ R′ : List ℕ) → P′ ≡ puts (e .size) (λ c. c .block) (over (writePlan e P R hs fs d offset) 0 n) P
         → R′ ≡ puts 12 (λ c. c .line) (over (writePlan e P R hs fs d offset) 0 n) R

@@ -1,16 +1,16 @@
--- Write by what is noted of a blob: what it knows of the leaves once all checks are done, its refusals 12 and 10 as one number, and the call.
+-- Write by what is noted of a blob: what it knows of the leaves once all checks are done, and the call.
 use mathlib.Core.Path.{_≡_}
 use mathlib.Core.List.{List}
-use Prim.Native.Nat.{ℕ, _+_, _<_}
-use lib.Dec.{eqb, ltb}
+use Prim.Native.Nat.{ℕ, _<_}
+use lib.Dec.{eqb}
 use lib.ListN.{length}
 use Rattle.meaning.specs.Lists.{pick}
 use Rattle.meaning.specs.declared.Edition.{Edition}
 use Rattle.meaning.specs.Refusals.{nowhere}
 use Rattle.meaning.specs.Calls.{Outcome, refused, done}
 use Rattle.change.specs.Turns.{over}
-use Rattle.worn.specs.Worn.{wornAmong}
 use Rattle.stretch.specs.Plan.{writePlan, Writable}
+use Rattle.barring.specs.Barred.{writeBarred}
 
 -- each leaf of the blob may be written
 pub record Leaves (e : Edition) (n : ℕ) (P R hs fs : List ℕ) : Type 0 where
@@ -18,12 +18,8 @@ pub record Leaves (e : Edition) (n : ℕ) (P R hs fs : List ℕ) : Type 0 where
   pub firsts : length fs ≡ n
   pub each : (s : ℕ) → s < n → Writable e P R hs s
 
--- the refusal of a write inside a blob of so many bytes: 12, else 10, else 0 for none
-unfoldable pub barredBy : (R hs : List ℕ) → (n bytes offset size : ℕ) → ℕ
-barredBy R hs n bytes offset size = pick (wornAmong R hs n) 12 (pick (ltb bytes (offset + size)) 10 0)
-
 -- the call, by what is noted of a blob of so many bytes: refused with that number, or the plan of each slot
 unfoldable pub writeNoted : Edition → (n : ℕ) → (P R hs fs : List ℕ) → (bytes offset : ℕ) → (d : List ℕ) → Outcome (Unit {0})
 writeNoted e n P R hs fs bytes offset d =
-    pick (eqb (barredBy R hs n bytes offset (length d)) 0) (done tt (over (writePlan e P R hs fs d offset) 0 n))
-    (refused (nowhere (barredBy R hs n bytes offset (length d))))
+    pick (eqb (writeBarred R hs n bytes offset (length d)) 0) (done tt (over (writePlan e P R hs fs d offset) 0 n))
+    (refused (nowhere (writeBarred R hs n bytes offset (length d))))

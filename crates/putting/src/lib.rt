@@ -2,8 +2,7 @@
 use meaning::Changed;
 use meaning::Edition;
 ghost use mathlib.Core.Path.{_≡_};
-ghost use Prim.Native.Nat.{_+_, _*_, _<_};
-ghost use lib.ListN.{length};
+ghost use Prim.Native.Nat.{_+_};
 ghost use Rattle.meaning.specs.Edition.{Proper};
 ghost use Rattle.meaning.specs.Change.{puts};
 ghost use Rattle.meaning.specs.Answers.{changeAnswer, Ends};
@@ -11,7 +10,7 @@ ghost use Rattle.gate.specs.Gate.{Whole};
 ghost use Rattle.change.specs.Turns.{over};
 ghost use Rattle.stretch.specs.Plan.{writePlan};
 ghost use Rattle.rewriting.specs.Unworn.{Unworn};
-ghost use Rattle.putting.specs.Noted.{Leaves, barredBy, writeNoted};
+ghost use Rattle.putting.specs.Noted.{Leaves, writeNoted};
 
 // Every slot that changes is stored, rising.
 fn write_all(
@@ -38,23 +37,6 @@ fn write_all(
     }
 }
 
-// Refusals 12 and 10 of a write inside a blob of so many bytes: the number, 0 for none. No sum can wrap.
-fn barred(records: &[u8], heights: &[u8], n: usize, bytes: u64, offset: u64, size: usize) -> u64
-    requires { ⌜ (length (now records) ≡ 12 * n) × (length (now heights) ≡ n) ⌝ }
-    ensures { λ r. ⌜ r ≡ barredBy (now (records .entry)) (now (heights .entry)) n bytes offset size ⌝ }
-{
-    if worn::is_worn(records, heights, n) {
-        return 12;
-    }
-    if bytes < offset {
-        return 10;
-    }
-    if bytes - offset < size as u64 {
-        return 10;
-    }
-    0
-}
-
 // Refusals 12 and 10, then the bytes are put, in a blob of so many bytes whose blocks are noted in the rows.
 pub fn write_noted(
     e: Edition,
@@ -73,7 +55,7 @@ pub fn write_noted(
     requires { ⌜ Unworn e n (now pool) (now records) (now heights) (now firsts) ⌝ }
     ensures { λ r. ⌜ Ends e changeAnswer (writeNoted e n (now (pool .entry)) (now (records .entry)) (now (heights .entry)) (now (firsts .entry)) bytes offset (now (src .entry))) (now (pool .entry)) (now (records .entry)) r (now (pool .exit)) (now (records .exit)) ⌝ }
 {
-    let number = barred(records, heights, n, bytes, offset, src.len());
+    let number = barring::write::barred(records, heights, n, bytes, offset, src.len());
     if number != 0 {
         return Changed::Refused(meaning::refuse_nowhere(number));
     }

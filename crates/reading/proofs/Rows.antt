@@ -11,10 +11,10 @@ use Rattle.meaning.specs.declared.Edition.{Edition}
 use Rattle.laws.proofs.Walked.{leafSlots, leaf-slots-length}
 use Rattle.laws.proofs.Marks.{walk-few}
 use Rattle.gate.specs.Gate.{Whole}
-use Rattle.walk.specs.declared.Walked.{Walked}
-use Rattle.walk.specs.declared.Walked.the-variants.{Fine}
-use Rattle.walk.specs.Noting.{met}
-use Rattle.walk.proofs.Putting.{put-there, put-length}
+use Rattle.noting.specs.declared.Walked.{Walked}
+use Rattle.noting.specs.declared.Walked.the-variants.{Fine}
+use Rattle.noting.specs.Noting.{met}
+use Rattle.noting.proofs.Putting.{put-there, put-length}
 use Rattle.reading.specs.Rooted.{openNoted}
 use Rattle.reading.proofs.Opening.{Blobbed, open-below, open-found}
 

@@ -7,7 +7,7 @@ use Rattle.meaning.specs.Lists.{pick, both}
 use Rattle.meaning.specs.Bytes.{state}
 use Rattle.meaning.specs.Refusals.{nowhere}
 use Rattle.meaning.specs.Walk.{Found, fault}
-use Rattle.walk.specs.Noting.{Noted, noteRoot}
+use Rattle.noting.specs.Noting.{Noted, noteRoot}
 use Rattle.meaning.specs.declared.Edition.{Edition}
 
 -- refusal 3, then the blob check with what it notes

@@ -1,11 +1,11 @@
 // What every reading call on one blob does first: refusal 3, then the blob check.
 use meaning::Edition;
-use walk::Walked;
+use noting::Walked;
 ghost use mathlib.Core.Path.{_≡_};
 ghost use lib.ListN.{replicate};
 ghost use Rattle.meaning.specs.Edition.{Proper};
 ghost use Rattle.gate.specs.Gate.{Whole};
-ghost use Rattle.walk.specs.Noting.{met};
+ghost use Rattle.noting.specs.Noting.{met};
 ghost use Rattle.reading.specs.Rooted.{openNoted};
 
 // The blob's bytes and leaves, whose slots are noted in the row; or the refusal.

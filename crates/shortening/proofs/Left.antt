@@ -1,11 +1,9 @@
--- The left edge, found by first children: the loop's turns, and that in a blob that is known each step comes to the next block of the edge.
+-- In a blob that is known each step from a first child to the next comes to the next block of the left edge.
 use mathlib.Core.Path.{_≡_, refl, ap, _∙_, sym}
 use mathlib.Core.List.{List, [], _∷_}
 use Prim.Native.Nat.{ℕ, zero, suc, _+_, _-_, _*_, _≤_, _<_}
-use native.Mathlib.Numerals.{add-one}
 use native.Mathlib.Omega.{arith}
 use lib.ListN.{length, getD}
-use lib.Seq.{take-all}
 use Rattle.meaning.specs.declared.Edition.{Edition}
 use Rattle.meaning.specs.Lists.{part, number}
 use Rattle.meaning.specs.Edition.{Proper}
@@ -19,41 +17,8 @@ use Rattle.growth.specs.Forms.{past}
 use Rattle.growth.proofs.Places.{left-site, left-root, left-step}
 use Rattle.sites.specs.Spelt.{blobAt}
 use Rattle.sites.specs.Known.{Known}
-use Rattle.walk.proofs.Laws.{fours-first}
-use Rattle.shortening.specs.Starts.{firstBelow}
-
--- the loop
-module _ (e : Edition) (P : List ℕ) (s : ℕ) where
-  pub below-start : s ≡ firstBelow e P s 0
-  unfolding firstBelow
-  below-start = refl
-
-  module _ (i at : ℕ) (ea : at ≡ firstBelow e P s i) where
-    pub below-fits : (steps : ℕ) → ((k : ℕ) → k ≤ steps → e .size * firstBelow e P s k + e .size ≤ length P) → i < steps
-        → e .size * at + e .size ≤ length P
-    below-fits steps fits less = rw ea (fits i (omega arith))
-
-    pub below-next : (x : ℕ) → x ≡ number (part (16 + 4 * 0) 4 (block e P at)) → x ≡ firstBelow e P s (i + 1)
-    unfolding firstBelow
-    below-next x ex = rw (add-one) (ex ∙ ap (λ (t : ℕ). number (part 16 4 (block e P t))) ea)
-
-    pub below-done : (steps : ℕ) → i ≤ steps → steps ≤ i → at ≡ firstBelow e P s steps
-    below-done steps low high = ea ∙ ap (firstBelow e P s) (let z : i ≡ steps = omega arith in z)
-
--- the block that is kept
-module _ (e : Edition) (P : List ℕ) (s steps from : ℕ) (ef : from ≡ firstBelow e P s steps) where
-  pub keep-fits : ((k : ℕ) → k ≤ steps → e .size * firstBelow e P s k + e .size ≤ length P) → e .size * from + e .size ≤ length P
-  keep-fits fits = rw ef (fits steps (omega arith))
-
-  pub keep-done : (kept b kept′ : List ℕ) → length kept ≡ e .size → b ≡ block e P from → length b ≡ e .size → kept′ ≡ part 0 (length kept) b
-      → kept′ ≡ block e P (firstBelow e P s steps)
-  unfolding part
-  keep-done kept b kept′ size eb long ek =
-      ek ∙ take-all (length kept) b (omega arith) ∙ eb ∙ ap (block e P) ef
-
--- a block has room for a child
-pub some-fan : (e : Edition) → Proper e → 0 < e .fan
-some-fan e p = omega (arith, p .two)
+use Rattle.noting.proofs.Laws.{fours-first}
+use Rattle.keeping.specs.Edge.{firstBelow}
 
 -- an inner block's first child
 first-child : (b row : List ℕ) → row ≡ childrenOf b → (countOf b ≡ 0 → ⊥) → getD row 0 past ≡ number (part 16 4 b)

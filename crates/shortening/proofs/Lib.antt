@@ -1,3 +1,2 @@
 pub mod Left
 pub mod Start
-pub mod Loop

@@ -32,9 +32,11 @@ use Rattle.sites.specs.Spelt.{blobAt, siteAt}
 use Rattle.sites.specs.Known.{Known}
 use Rattle.worn.proofs.Laws.{unworn-slot}
 use Rattle.change.specs.Turns.{over}
-use Rattle.cutting.specs.declared.Cut.{Cut}
-use Rattle.cutting.specs.Plans.{Cuts, KeptBlock, Here, cutPlan}
-use Rattle.shortening.specs.Starts.{firstBelow, CutStart}
+use Rattle.cuts.specs.declared.Cut.{Cut}
+use Rattle.cuts.specs.Cuts.{Cuts}
+use Rattle.cutting.specs.Plans.{KeptBlock, Here, cutPlan}
+use Rattle.keeping.specs.Edge.{firstBelow}
+use Rattle.shortening.specs.Starts.{CutStart}
 use Rattle.shortening.proofs.Left.{left-below, left-fits}
 use Rattle.cutting.proofs.Slots.{cut-changes}
 

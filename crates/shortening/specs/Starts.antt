@@ -1,22 +1,15 @@
--- What is known of a blob before it is cut, and its left edge by first children.
+-- What is known of a blob before it is cut.
 use mathlib.Core.Path.{_≡_}
 use mathlib.Core.Bool.{false}
 use mathlib.Core.List.{List}
-use Prim.Native.Nat.{ℕ, zero, suc, _<_}
+use Prim.Native.Nat.{ℕ, _<_}
 use Rattle.meaning.specs.declared.Edition.{Edition}
-use Rattle.meaning.specs.Lists.{part, number}
-use Rattle.meaning.specs.Bytes.{block}
 use Rattle.meaning.specs.Shape.{leavesFor}
 use Rattle.growth.specs.Cuts.{heightOfLength}
 use Rattle.gate.specs.Gate.{Whole}
 use Rattle.sites.specs.Known.{Known}
 use Rattle.worn.specs.Worn.{wornAmong}
-use Rattle.cutting.specs.declared.Cut.{Cut}
-
--- the slot so many steps of first children below the block in slot s
-unfoldable pub firstBelow : (e : Edition) (P : List ℕ) (s k : ℕ) → ℕ
-firstBelow e P s zero = s
-firstBelow e P s (suc k) = number (part 16 4 (block e P (firstBelow e P s k)))
+use Rattle.cuts.specs.declared.Cut.{Cut}
 
 -- the blob of root r, of a pool whose check passed and whose sites are noted, may be cut to c: that is shorter, and no slot of it is worn
 pub record CutStart (e : Edition) (c : Cut) (n : ℕ) (P R : List ℕ) (r : ℕ) (hs fs : List ℕ) : Type 0 where

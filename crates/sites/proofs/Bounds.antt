@@ -15,7 +15,7 @@ use Rattle.visit.proofs.Laws.{slot-fits}
 use Rattle.growth.specs.Room.{Every}
 use Rattle.sites.specs.Spelt.{Fit, blobAt, Inside, treeLeaves, rowLeaves}
 use Rattle.sites.specs.Marks.{Ready, BlockStart, RowStart, SitesStart}
-use Rattle.walk.proofs.Laws.{fours-first}
+use Rattle.noting.proofs.Laws.{fours-first}
 use Rattle.sites.proofs.Laws.{inner-leaves, row-leaves}
 
 -- a tree's own block fits

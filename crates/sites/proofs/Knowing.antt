@@ -19,15 +19,15 @@ use Rattle.meaning.specs.Calls.{Outcome, refused, refuseIf, afterCheck, withBlo
 use Rattle.laws.proofs.Inversions.{by-test}
 use Rattle.laws.proofs.Walked.{leafSlots, leaf-slots-length}
 use Rattle.laws.proofs.Roots.{Listed, pool-names-root}
-use Rattle.walk.specs.declared.Walked.{Walked}
-use Rattle.walk.specs.declared.Walked.the-variants.{Fault, Fine}
-use Rattle.walk.specs.Noting.{Noted, met, putAll, noteLeaves, noteTree, noteBlob}
-use Rattle.pool.specs.Naming.{kept, noteIfNamed, noteNamed, poolNoted}
-use Rattle.walk.proofs.Answering.{noted-fault, noted-fine}
+use Rattle.noting.specs.declared.Walked.{Walked}
+use Rattle.noting.specs.declared.Walked.the-variants.{Fault, Fine}
+use Rattle.noting.specs.Noting.{Noted, met, putAll, noteLeaves, noteTree, noteBlob}
+use Rattle.roots.specs.Naming.{kept, noteIfNamed, noteNamed, poolNoted}
+use Rattle.noting.proofs.Answering.{noted-fault, noted-fine}
 use Rattle.growth.specs.Sites.{sitesOf}
 use Rattle.growth.proofs.Resized.{Standing}
 use Rattle.growth.proofs.Pools.{pool-standing}
-use Rattle.walk.proofs.Putting.{put-there, put-length}
+use Rattle.noting.proofs.Putting.{put-there, put-length}
 use Rattle.sites.specs.Spelt.{blobAt}
 use Rattle.sites.specs.Marks.{tall, begin, Marked, SitesStart}
 use Rattle.sites.specs.Known.{Known}

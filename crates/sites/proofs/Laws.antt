@@ -8,7 +8,7 @@ use Rattle.meaning.specs.declared.Edition.{Edition}
 use Rattle.meaning.specs.Lists.{part, number, joined, fours}
 use Rattle.meaning.specs.Bytes.{block, heightOf, countOf, childrenOf}
 use Rattle.meaning.specs.Tree.{slotOf, leaves}
-use Rattle.walk.proofs.Laws.{fours-first}
+use Rattle.noting.proofs.Laws.{fours-first}
 use Rattle.growth.specs.Sites.{Site, counting, sites, sitesOf}
 use Rattle.sites.specs.Spelt.{treeAt, blobAt, treeSites, rowSites, treeLeaves, rowLeaves}
 use Rattle.sites.specs.Marks.{puts, tall, begin, Marked}

@@ -2,24 +2,14 @@
 // The blob was found by the pool check, so nothing is checked here.
 use meaning::Edition;
 ghost use mathlib.Core.Path.{_≡_};
-ghost use Prim.Native.Nat.{_+_, _^_, _<_};
-ghost use lib.ListN.{length, drop, set};
+ghost use Prim.Native.Nat.{_+_};
+ghost use lib.ListN.{drop};
 ghost use Rattle.meaning.specs.Lists.{fours};
 ghost use Rattle.meaning.specs.Edition.{Proper};
 ghost use Rattle.meaning.specs.Bytes.{block};
 ghost use Rattle.growth.specs.Sites.{sitesOf};
 ghost use Rattle.sites.specs.Spelt.{blobAt, treeSites, rowSites, treeLeaves, rowLeaves};
 ghost use Rattle.sites.specs.Marks.{Marked, BlockStart, RowStart, SitesStart};
-
-// Notes one block: one more than its height, and its first leaf.
-fn note_slot(heights: &mut [u8], firsts: &mut [u32], slot: usize, h: usize, first: usize)
-    requires { ⌜ (slot < length (now heights)) × (slot < length (now firsts)) ⌝ }
-    requires { ⌜ (h < 255) × (first < 2 ^ 32) ⌝ }
-    ensures { λ _. ⌜ (now (heights .exit) ≡ set (now (heights .entry)) slot (h + 1)) × (now (firsts .exit) ≡ set (now (firsts .entry)) slot first) ⌝ }
-{
-    heights[slot] = (h + 1) as u8;
-    firsts[slot] = first as u32;
-}
 
 // Notes a block of height h and all below it, after that many leaves. Answers how many leaves there are then.
 fn note_block(
@@ -37,11 +27,11 @@ fn note_block(
     ensures { λ r. ⌜ Marked (treeSites e (now (pool .entry)) h leaves slot) (now (heights .entry)) (now (firsts .entry)) (now (heights .exit)) (now (firsts .exit)) ⌝ }
     ensures { λ r. ⌜ r ≡ leaves + treeLeaves e (now (pool .entry)) h slot ⌝ }
 {
-    note_slot(heights, firsts, slot, h, leaves);
+    marking::note_slot(heights, firsts, slot, h, leaves);
     if h == 0 {
         return leaves + 1;
     }
-    let count = block::check::count_of(slot::block_of(e, pool, slot));
+    let count = fields::count_of(slot::block_of(e, pool, slot));
     note_row(e, pool, heights, firsts, n, h - 1, slot, count, leaves)
 }
 
@@ -91,7 +81,7 @@ fn note_child(
     ensures { λ r. ⌜ r ≡ leaves + treeLeaves e (now (pool .entry)) w slot ⌝ }
 {
     if w == 0 {
-        note_slot(heights, firsts, slot, w, leaves);
+        marking::note_slot(heights, firsts, slot, w, leaves);
         return leaves + 1;
     }
     note_block(e, pool, heights, firsts, n, w, slot, leaves)
@@ -110,6 +100,6 @@ pub fn note_sites(
     requires { ⌜ SitesStart e n (now pool) (now heights) (now firsts) root ⌝ }
     ensures { λ _. ⌜ Marked (sitesOf (blobAt e (now (pool .entry)) root)) (now (heights .entry)) (now (firsts .entry)) (now (heights .exit)) (now (firsts .exit)) ⌝ }
 {
-    let h = block::check::height_of(slot::block_of(e, pool, root));
+    let h = fields::height_of(slot::block_of(e, pool, root));
     note_block(e, pool, heights, firsts, n, h, root, 0);
 }

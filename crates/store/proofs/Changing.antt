@@ -12,7 +12,7 @@ use Rattle.meaning.specs.declared.Changed.{Changed}
 use Rattle.meaning.specs.declared.Finished.{Finished}
 use Rattle.surveying.specs.Reached.{Rows}
 use Rattle.fitting.specs.Found.{Drafts}
-use Rattle.store.proofs.Opening.{flags-here, long-here}
+use Rattle.store_reads.proofs.Opening.{flags-here, long-here}
 
 module _ (e : Edition) (ee : e ≡ one) where
   -- rows of 1,024 places have one for every slot

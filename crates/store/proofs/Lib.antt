@@ -1,3 +1,1 @@
-pub mod Opening
-pub mod Answers
 pub mod Changing

@@ -80,12 +80,7 @@ fn differing_in(e: Edition, b: &[u8], src: &[u8], first: u32, offset: usize) -> 
     ensures { λ r. ⌜ r ≡ differing e (now (b .entry)) (now (src .entry)) first offset ⌝ }
     ensures { λ r. ⌜ Chosen (now (b .entry)) (now (src .entry)) r ⌝ }
 {
-    let t = touched(
-        leaf_start(e, first),
-        block::check::count_of(b),
-        offset,
-        src.len(),
-    );
+    let t = touched(leaf_start(e, first), fields::count_of(b), offset, src.len());
     let within = t.within;
     let count = t.count;
     if count == 0 {

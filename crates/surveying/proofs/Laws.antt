@@ -1,21 +1,15 @@
--- Refusals 1, 2 and 3 and the pool check's fault are the refusal of every call that changes one blob; behind them the blob is known.
+-- Refusals 1 and 2 are the refusal of every call that changes one blob; behind them the survey decides, and behind that the blob is known.
 -- The rows are lent up to place n only: what stands there after the survey is what the survey put there.
 use mathlib.Core.Path.{_≡_, refl, ap, _∙_, sym}
-use mathlib.Core.Bool.{Bool, true, false, not}
 use mathlib.Core.List.{List, _++_}
-use Prim.Native.Nat.{ℕ, _+_, _-_, _≤_}
+use Prim.Native.Nat.{ℕ, _-_, _≤_}
 use native.Mathlib.Omega.{arith}
 use borrow.Rule.Slice.PartMut.{putMid}
 use borrow.Table.Elements.{take-le}
-use lib.Dec.{eqb, ltb}
 use lib.ListN.{length, take, drop}
 use lib.Seq.{take-at}
-use Rattle.meaning.specs.Lists.{both}
-use Rattle.meaning.specs.Edition.{Proper}
-use Rattle.meaning.specs.Bytes.{state}
-use Rattle.meaning.specs.Refusals.{nowhere}
 use Rattle.meaning.specs.Tree.{Blob}
-use Rattle.meaning.specs.Calls.{Outcome, refused, refuseIf, rooted, changing, slotsIn, opened, after}
+use Rattle.meaning.specs.Calls.{Outcome, refused, changing, slotsIn, opened, after}
 use Rattle.meaning.specs.Answers.{changeAnswer, Ends}
 use Rattle.meaning.specs.declared.Edition.{Edition}
 use Rattle.meaning.specs.declared.Refusal.{Refusal}
@@ -24,51 +18,14 @@ use Rattle.gate.specs.Gate.{gate}
 use Rattle.gate.specs.declared.Opened.{Opened}
 use Rattle.gate.specs.declared.Opened.the-variants.{Slots, Refused}
 use Rattle.gate.proofs.Laws.{gate-whole, gate-behind, gate-barred}
-use Rattle.visit.specs.Visit.{Sized}
-use Rattle.walk.specs.declared.Walked.{Walked}
-use Rattle.walk.specs.declared.Walked.the-variants.{Fault, Fine}
-use Rattle.walk.specs.Noting.{met}
-use Rattle.pool.specs.Naming.{poolNoted}
-use Rattle.growth.specs.Sites.{sitesOf}
-use Rattle.reading.proofs.Opening.{whole-sized, root-below, root-recorded}
+use Rattle.noting.specs.declared.Walked.{Walked}
+use Rattle.noting.specs.declared.Walked.the-variants.{Fault, Fine}
 use Rattle.reading.proofs.Lending.{row-reaches, row-lent, flags-reach, flags-lent}
-use Rattle.sites.specs.Spelt.{blobAt}
-use Rattle.sites.specs.Marks.{Marked, SitesStart}
 use Rattle.sites.specs.Known.{Known}
-use Rattle.sites.proofs.Knowing.{fault-changing, sites-start, known}
 use Rattle.surveying.specs.declared.Reached.{Reached}
 use Rattle.surveying.specs.declared.Reached.the-variants as reached
-use Rattle.surveying.specs.Reached.{Rows, Room, Rooted, front, Behind, Reaches}
-
--- what the survey is lent
-pub room-sized : (e : Edition) (n : ℕ) (P R seen row hs fs : List ℕ) → Room e n P R seen row hs fs → Sized e n P R seen
-room-sized e n P R seen row hs fs g = whole-sized e n P R seen (g .whole) (g .unseen)
-
--- refusal 3 and what is behind it
-module _ (e : Edition) (n : ℕ) (P R : List ℕ) (r : ℕ) (t : Bool) (et : t ≡ both (ltb r n) (eqb (state R r) 2)) where
-  pub unrooted : not t ≡ true → (q : Refusal) → q ≡ nowhere 3 → (row hs fs : List ℕ) → Rooted e n P R r (Fault q) row hs fs
-  unfolding Rooted changing rooted refuseIf
-  unrooted p q eq row hs fs = λ f. rw eq (simp (← et, p))
-
-  -- the pool check's answer w: a fault, or the blob's sites may be noted, and then the blob is known
-  module _ (p : not t ≡ false) (o : List ℕ) (w : Walked) (sx ox : List ℕ) (ew : met w sx ox ≡ poolNoted e n P R r o) where
-    pub rooted-fault : (q : Refusal) → w ≡ Fault q → (row hs fs : List ℕ) → Rooted e n P R r w row hs fs
-    unfolding Rooted
-    rooted-fault q eq row hs fs =
-        rw eq (λ f. fault-changing e n P R r o w sx ox ew q eq (root-below R n r t et p) (root-recorded R n r t et p) f)
-
-    module _ (len k : ℕ) (ek : w ≡ Fine len k) (proper : Proper e) (seen hs fs : List ℕ) (g : Room e n P R seen o hs fs) where
-      pub rooted-sites : SitesStart e n P hs fs r
-      rooted-sites =
-          sites-start e n P R r o w sx ox ew (root-below R n r t et p) (root-recorded R n r t et p) len k ek proper (g .whole .pool) (g .whole .few) hs fs
-          (g .flat) (g .begins)
-
-      pub rooted-known : (hs′ fs′ : List ℕ) → Marked (sitesOf (blobAt e P r)) hs fs hs′ fs′ → Rooted e n P R r w ox hs′ fs′
-      unfolding Rooted
-      rooted-known hs′ fs′ noted =
-          rw ek
-          (known e n P R r o w sx ox ew (root-below R n r t et p) (root-recorded R n r t et p) len k ek proper (g .whole .pool) (g .whole .few) hs fs
-          (g .flat) (g .begins) (g .rows) hs′ fs′ noted)
+use Rattle.charting.specs.Charted.{Room, Rooted}
+use Rattle.surveying.specs.Reached.{Rows, front, Behind, Reaches}
 
 -- the front of a row
 front-within : (n : ℕ) (l : List ℕ) → length (front n l) ≡ n → n ≤ length l

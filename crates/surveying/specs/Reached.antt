@@ -8,8 +8,6 @@ use Rattle.meaning.specs.Tree.{Blob}
 use Rattle.meaning.specs.Calls.{Outcome, refused, slotsIn, opened, changing}
 use Rattle.gate.specs.Gate.{Whole, gate}
 use Rattle.gate.specs.declared.Opened.the-variants.{Slots}
-use Rattle.walk.specs.declared.Walked.{Walked}
-use Rattle.walk.specs.declared.Walked.the-variants.{Fault, Fine}
 use Rattle.sites.specs.Known.{Known}
 use Rattle.surveying.specs.declared.Reached.{Reached}
 use Rattle.surveying.specs.declared.Reached.the-variants as reached
@@ -20,19 +18,6 @@ pub record Rows (e : Edition) (seen row heights firsts : List ℕ) : Type 0 wher
   pub rows : length row ≡ e .most
   pub flat : heights ≡ replicate (e .most) 0
   pub begins : length firsts ≡ e .most
-
--- and behind refusals 1 and 2: pool and records of n slots, and rows of n places
-pub record Room (e : Edition) (n : ℕ) (P R seen row heights firsts : List ℕ) : Type 0 where
-  pub whole : Whole e n P R
-  pub unseen : seen ≡ replicate n 0
-  pub rows : length row ≡ n
-  pub flat : heights ≡ replicate n 0
-  pub begins : length firsts ≡ n
-
--- what a walk's answer says of every call that changes the blob of root r: it is refused so, or the blob is known
-unfoldable pub Rooted : (e : Edition) (n : ℕ) (P R : List ℕ) (r : ℕ) → Walked → (row hs fs : List ℕ) → Type 0
-Rooted e n P R r (Fault q) row hs fs = (f : Blob → Outcome (Unit {0})) → changing e n P R r f ≡ refused q
-Rooted e n P R r (Fine len k) row hs fs = Known e n P R r len k row hs fs
 
 -- the first n places of a row, as they are lent
 abbrev pub front : ℕ → List ℕ → List ℕ

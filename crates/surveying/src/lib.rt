@@ -2,42 +2,14 @@
 use gate::Opened;
 use meaning::Edition;
 use meaning::Refusal;
-use walk::Walked;
+use noting::Walked;
 ghost use Rattle.meaning.specs.Edition.{Proper};
-ghost use Rattle.surveying.specs.Reached.{Rows, Room, Rooted, Reaches};
+ghost use Rattle.surveying.specs.Reached.{Rows, Reaches};
 
 // A refusal; or the blob: the number of slots, the blob's bytes and its leaves.
 pub enum Reached {
     Refused(Refusal),
     Blob(usize, u64, usize),
-}
-
-// Refusal 3, then the pool check and the notes, in rows of n places.
-fn survey_root(
-    e: Edition,
-    pool: &[u8],
-    records: &[u8],
-    seen: &mut [u8],
-    row: &mut [u32],
-    heights: &mut [u8],
-    firsts: &mut [u32],
-    n: usize,
-    root: u64,
-) -> Walked
-    requires { ⌜ Proper e ⌝ }
-    requires { ⌜ Room e n (now pool) (now records) (now seen) (now row) (now heights) (now firsts) ⌝ }
-    ensures { λ r. ⌜ Rooted e n (now (pool .entry)) (now (records .entry)) root r (now (row .exit)) (now (heights .exit)) (now (firsts .exit)) ⌝ }
-{
-    if !gate::is_root(records, n, root) {
-        return Walked::Fault(meaning::refuse_nowhere(3));
-    }
-    let at = root as usize;
-    let walked = pool::check(e, pool, records, seen, row, n, at);
-    let Walked::Fine(_, _) = walked else {
-        return walked;
-    };
-    sites::note_sites(e, pool, heights, firsts, n, at);
-    walked
 }
 
 // Refusals 1 and 2, then what is behind them, in the rows' first n places.
@@ -58,7 +30,7 @@ pub fn reach(
     match gate::open(e, pool, records) {
         Opened::Refused(r) => Reached::Refused(r),
         Opened::Slots(n) => {
-            let walked = survey_root(
+            let walked = charting::survey_root(
                 e,
                 pool,
                 records,

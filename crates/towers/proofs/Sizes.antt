@@ -2,7 +2,7 @@
 -- new height has 2 ^ 46 leaves or fewer, and fewer than twice as many blocks; at any height from its own on its leaves and its blocks fit.
 use mathlib.Core.Path.{_≡_, sym, _∙_}
 use mathlib.Core.List.{List}
-use Prim.Native.Nat.{ℕ, _+_, _-_, _^_, _≤_, _<_}
+use Prim.Native.Nat.{ℕ, _-_, _^_, _≤_, _<_}
 use native.Mathlib.Nat.{mul-le-mul, pow-le-pow-left, pow-le-pow-right}
 use native.Mathlib.Decide.{decLe}
 use native.Mathlib.Omega.{arith}
@@ -13,8 +13,8 @@ use Rattle.meaning.specs.Shape.{leavesFor, most}
 use Rattle.meaning.specs.Resize.{share}
 use Rattle.growth.specs.Forms.{bulk}
 use Rattle.growth.proofs.Steps.{bulk-rises}
-use Rattle.position.proofs.Laws.{pow-rises, bulk-twice}
-use Rattle.rising.proofs.Bounds.{want-power, blob-leaves-fit, blob-blocks-fit, longer-leaves, longer-height, taken-within}
+use Rattle.subtrees.proofs.Laws.{pow-rises, bulk-twice}
+use Rattle.rising.proofs.Bounds.{want-power, blob-leaves-fit, blob-blocks-fit, longer-leaves, longer-height}
 use Rattle.drawing.specs.declared.Growth.{Growth}
 use Rattle.drawing.specs.Grows.{Grows}
 use Rattle.towers.specs.declared.Tower.{Tower}
@@ -46,7 +46,7 @@ module _ (e : Edition) (g : Growth) (t : Tower) (proper : Proper e) (grows : Gro
   top-above = omega (arith, longer-height e proper (towers .blob) (towers .shaped) (g .length) (towers .long), towers .height, towers .top)
 
   -- a full tree of the new height is not much larger
-  top-power : e .fan ^ t .top ≤ 2 ^ 46
+  pub top-power : e .fan ^ t .top ≤ 2 ^ 46
   top-power =
       let narrow : e .fan ≤ 64 = omega (arith, proper .byte, proper .fills) in
       rw (towers .top) (omega (arith, want-power e proper (g .length), mul-le-mul narrow want-few))
@@ -74,12 +74,6 @@ module _ (e : Edition) (g : Growth) (t : Tower) (proper : Proper e) (grows : Gro
       rw (towers .blocks, towers .leaves, towers .height) (blob-blocks-fit e proper (towers .blob) (towers .shaped)) in
       omega (arith, bulk-rises (e .fan) (t .height) h (omega (arith, proper .two)) high)
 
-  -- a new block is one of a full tree of the new height
-  pub new-within : (p : ℕ) → p < t .taken → p + t .blocks < bulk (e .fan) (t .top)
-  new-within p few =
-      let less = rw (towers .taken) at few in
-      rw (towers .blocks, towers .leaves, towers .top) (taken-within e proper (towers .blob) (towers .shaped) (g .length) p less)
-
   -- the root's block, where the root is at its old height
   pub own-low : (level : ℕ) → level ≡ t .height → level < 256
   own-low level is = omega (arith, level-small level (omega (arith, top-above)))
@@ -99,57 +93,6 @@ module _ (e : Edition) (g : Growth) (t : Tower) (proper : Proper e) (grows : Gro
 
   pub below-blocks : (level b : ℕ) → (level ≡ t .height → ⊥) → t .height ≤ level → b ≡ bulk (e .fan) (level - 1) → t .blocks ≤ b
   below-blocks level b other high whole = omega (arith, blocks-within (level - 1) (omega arith))
-
-  -- at a height below the top
-  pub level-power : (level : ℕ) → level < t .top → e .fan ^ level ≤ 2 ^ 50
-  level-power level low = omega (arith, power-small level (omega arith))
-
-  pub level-leaves : (level w : ℕ) → t .height ≤ level → w ≡ e .fan ^ level → g .leaves ≤ w
-  level-leaves level w high wide = omega (arith, leaves-within level high)
-
-  pub level-room : (level w : ℕ) → level < t .top → w ≡ e .fan ^ level → w - g .leaves ≤ 2 ^ 50
-  level-room level w low wide = omega (arith, power-small level (omega arith))
-
-  -- at the top, and at the old height
-  pub top-fits : e .fan ^ t .top ≤ 2 ^ 50
-  top-fits = omega (arith, top-power)
-
-  pub own-fits : e .fan ^ t .height ≤ 2 ^ 50
-  own-fits = omega (arith, power-small (t .height) top-above)
-
-  -- the number of a new block, after the old ones
-  pub number-within : (p number : ℕ) → p < t .taken → number ≡ p + t .blocks → number < bulk (e .fan) (t .top)
-  number-within p number few counted = omega (arith, new-within p few)
-
-  pub number-small : (p : ℕ) → p < t .taken → p + t .blocks ≤ 2 ^ 47
-  number-small p few = omega (arith, new-within p few, bulk-small (t .top) (omega arith))
-
-  pub new-small : (p : ℕ) → p < t .taken → p ≤ 2 ^ 51
-  new-small p few = omega (arith, number-small p few)
-
-  pub side-small : (p number full k : ℕ) → p < t .taken → number ≡ p + t .blocks → number - full - k ≤ 2 ^ 51
-  side-small p number full k few counted = omega (arith, number-small p few)
-
-  -- the seat of a new block
-  pub seat-low : (level h : ℕ) → level < t .top → h ≤ level → h < 256
-  seat-low level h low under = omega (arith, level-small h (omega arith))
-
-  pub seat-power : (level h : ℕ) → level < t .top → h ≤ level → e .fan ^ h ≤ 2 ^ 50
-  seat-power level h low under = omega (arith, power-small h (omega arith))
-
-  pub side-first : (p number level full k w f : ℕ) → p < t .taken → number ≡ p + t .blocks → level < t .top → w ≡ e .fan ^ level
-      → f ≤ w - g .leaves + (number - full - k) → f ≤ 2 ^ 49
-  side-first p number level full k w f few counted low wide first =
-      omega (arith, number-small p few, power-small level (omega arith))
-
-  pub edge-low : (h : ℕ) → h ≤ t .height → h < 256
-  edge-low h under = omega (arith, level-small h (omega (arith, top-above)))
-
-  pub edge-power : (h : ℕ) → h ≤ t .height → e .fan ^ h ≤ 2 ^ 50
-  edge-power h under = omega (arith, power-small h (omega (arith, top-above)))
-
-  pub edge-first : (p f : ℕ) → p < t .taken → f ≤ e .fan ^ t .height + p → f ≤ 2 ^ 49
-  edge-first p f few first = omega (arith, number-small p few, power-small (t .height) top-above)
 
 -- the root's block is as full as it may be, at its old height
 module _ (e : Edition) (g : Growth) (t : Tower) (kept : List ℕ) (level : ℕ) (block : RootBlock e g t kept) (is : level ≡ t .height) where

@@ -18,7 +18,7 @@ fn cut_leaf(e: Edition, short: usize, block: &[u8], payload: &mut [u8], first: u
     requires { ⌜ (length (now block) ≡ e .size) × (countOf (now block) ≤ e .leaf) ⌝ }
     ensures { λ r. ⌜ Draws e (record { height = 0; row = cutRow e short 0 first (dataOf (now (block .entry))) }) r (now (payload .exit)) ⌝ }
 {
-    let count = block::check::count_of(block);
+    let count = fields::count_of(block);
     let kept = number::least(count, payload::share_of(e, short, first));
     payload::copy_payload(payload, block, kept);
     Drawn {
@@ -41,8 +41,8 @@ fn cut_inner(
     requires { ⌜ (length (now block) ≡ e .size) × (countOf (now block) ≤ e .fan) ⌝ }
     ensures { λ r. ⌜ Draws e (record { height = suc below; row = take (up (leaves - first) (e .fan ^ below)) (childrenOf (now (block .entry))) }) r (now (payload .exit)) ⌝ }
 {
-    let count = block::check::count_of(block);
-    let kept = position::places(e.fan, leaves, count, below, first);
+    let count = fields::count_of(block);
+    let kept = subtrees::places(e.fan, leaves, count, below, first);
     payload::copy_payload(payload, block, 4 * kept);
     Drawn {
         height: (below + 1) as u8,

@@ -4,7 +4,7 @@ use vectors_say::say;
 use vectors_text::text::Command;
 
 fn read_into(c: Command, pool: &[u8], records: &[u8], out: &mut [u8]) {
-    vectors_answers::finished(store::reads::read(pool, records, c.a, c.b, out));
+    vectors_answers::finished(store_reads::read(pool, records, c.a, c.b, out));
     say::hex(out);
     say::end();
 }
@@ -22,7 +22,7 @@ fn read(c: Command, pool: &[u8], records: &[u8]) {
 fn show(c: Command, pool: &[u8], records: &[u8]) {
     let mut number: u64 = 77;
     let mut slot: u64 = 77;
-    let part = store::reads::show(pool, records, c.a, c.b, &mut number, &mut slot);
+    let part = store_reads::show(pool, records, c.a, c.b, &mut number, &mut slot);
     say::number(number);
     say::slot_number(slot);
     say::hex(part);
@@ -32,11 +32,11 @@ fn show(c: Command, pool: &[u8], records: &[u8]) {
 fn run(c: Command, pool: &[u8], records: &[u8]) {
     let name = c.name;
     match name {
-        b'L' => vectors_answers::length(store::reads::length(pool, records, c.a)),
+        b'L' => vectors_answers::length(store_reads::length(pool, records, c.a)),
         b'R' => read(c, pool, records),
-        b'F' => vectors_answers::leaf(store::reads::find_leaf(pool, records, c.a, c.b)),
+        b'F' => vectors_answers::leaf(store_reads::find_leaf(pool, records, c.a, c.b)),
         b'S' => show(c, pool, records),
-        b'A' => vectors_answers::audit(store::reads::audit(pool, records)),
+        b'A' => vectors_answers::audit(store_reads::audit(pool, records)),
         _ => {}
     }
 }

@@ -61,7 +61,7 @@ fn check_slot(
 {
     let version = record::version_of(slot::record_of(records, slot));
     let b = slot::block_of(e, pool, slot);
-    block::check::check_block(e, h, root, edge, version, slot, b)
+    block::check_block(e, h, root, edge, version, slot, b)
 }
 
 // One visit of a slot, as a block of height h.

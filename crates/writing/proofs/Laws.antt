@@ -27,7 +27,8 @@ use Rattle.surveying.specs.declared.Reached.{Reached}
 use Rattle.surveying.specs.declared.Reached.the-variants as reached
 use Rattle.surveying.specs.Reached.{front, Behind, Reaches}
 use Rattle.surveying.proofs.Laws.{refused-so, reached-blob, reached-opened}
-use Rattle.putting.specs.Noted.{barredBy, writeNoted}
+use Rattle.barring.specs.Barred.{writeBarred}
+use Rattle.putting.specs.Noted.{writeNoted}
 use Rattle.rewriting.proofs.Facts.{leaves-known, all-same}
 
 -- a known blob of so many bytes: the call is what is noted of it
@@ -38,7 +39,7 @@ module _ (e : Edition) (p : Proper e) (n : ℕ) (P R : List ℕ) (r len k : ℕ)
   on-blob = known-changing e n P R r len k row hs fs g (writeOn e n P R offset d)
 
   noted : writeIn e n P R r offset d ≡ writeNoted e n P R hs fs len offset d
-  unfolding writeOn refusePast refuseIf writeNoted barredBy pick
+  unfolding writeOn refusePast refuseIf writeNoted writeBarred pick
   noted =
       by-test (wornAmong R hs n)
       (λ t. rw t (on-blob ∙ worn-refused e n P R r len k row hs fs g t _))

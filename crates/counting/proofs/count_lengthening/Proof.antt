@@ -6,7 +6,7 @@ use Prim.Native.Nat.{_-_, _≤_}
 use lib.ListN.{length}
 use Rattle.growth.specs.Slots.{usableBelow}
 use Rattle.growing.specs.Plans.{growPlans}
-use Rattle.lengthening.proofs.Turns.{below-start, below-more}
+use Rattle.grafting.proofs.Turns.{below-start, below-more}
 use Rattle.counting.proofs.Counts.{Counting, counting-start, counting-fits, counting-on, counting-end, counting-most, grow-one, grow-here, grow-line}
 use Rattle.counting.proofs.count_lengthening.Statement.{statement}
 use Rattle.counting.proofs.count_lengthening.Tie as tie

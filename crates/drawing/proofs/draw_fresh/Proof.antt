@@ -1,5 +1,5 @@
 -- A leaf of zeros, or an inner block, one higher than the lower function's number.
-use Rattle.position.proofs.Laws.{low-power}
+use Rattle.subtrees.proofs.Laws.{low-power}
 use Rattle.drawing.proofs.Laws.{fresh-leaf, fresh-higher}
 use borrow.Author.Needs.{needs}
 use Rattle.drawing.proofs.draw_fresh.Statement.{statement}

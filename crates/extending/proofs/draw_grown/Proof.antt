@@ -1,6 +1,6 @@
 -- A leaf or an inner block, one higher than the lower function's number.
 use Rattle.laws.proofs.Checks.{inner-most}
-use Rattle.position.proofs.Laws.{low-power}
+use Rattle.subtrees.proofs.Laws.{low-power}
 use Rattle.extending.proofs.Laws.{grown-lowest, grown-higher, low-share}
 use borrow.Author.Needs.{needs}
 use Rattle.extending.proofs.draw_grown.Statement.{statement}

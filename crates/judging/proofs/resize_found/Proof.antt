@@ -1,11 +1,14 @@
--- Refusals 12 and 11, or the blob as it becomes.
-use Rattle.judging.proofs.Answers.{resize-worn, resize-full, resize-roomy, resize-done}
+-- The refusal's number with nothing changed, or the blob as it becomes.
+use Rattle.judging.proofs.Answers.{resize-barred, resize-roomy, resize-done}
 use borrow.Author.Needs.{needs}
 use Rattle.judging.proofs.resize_found.Statement.{statement}
 use Rattle.judging.proofs.resize_found.Tie as tie
 
-is-worn-requires : tie.Need-is-worn-requires
-is-worn-requires c κs = search needs
+list-requires : tie.Need-list-requires
+list-requires c κs = search needs
+
+barred-requires : tie.Need-barred-requires
+barred-requires c κs = (search needs, (search needs, search needs))
 
 refuse-nowhere-requires : tie.Need-refuse-nowhere-requires
 refuse-nowhere-requires c κs = search needs
@@ -13,26 +16,11 @@ refuse-nowhere-requires c κs = search needs
 same-length : tie.Need-same-length
 same-length c = search needs
 
-returns : tie.Need-returns
-returns c = search resize-worn
-
-list-requires : tie.Need-list-requires
-list-requires c κs = search needs
-
-lacks-room-requires : tie.Need-lacks-room-requires
-lacks-room-requires c κs = search needs
-
-refuse-nowhere-requires-2 : tie.Need-refuse-nowhere-requires-2
-refuse-nowhere-requires-2 c κs = search needs
-
 same-length-2 : tie.Need-same-length-2
 same-length-2 c = search needs
 
-same-length-3 : tie.Need-same-length-3
-same-length-3 c = search needs
-
-returns-2 : tie.Need-returns-2
-returns-2 c = search resize-full
+returns : tie.Need-returns
+returns c = search resize-barred
 
 leaf-count-requires : tie.Need-leaf-count-requires
 leaf-count-requires c κs = search needs
@@ -49,18 +37,20 @@ part-resize-blob-end c = search needs
 resize-blob-requires : tie.Need-resize-blob-requires
 resize-blob-requires c κs =
     let count = c .before .before .before .before .before .before .before in
-    let room = count .before in
-    let list = room .before .before .before .before in
-    let fresh = list .before .before .before in
-    let worn = fresh .before in
-    let start = worn .before .before .before .before .before .before .before .before .before .before in (
+    let passed = count .before in
+    let barred = passed .before in
+    let list = barred .before .before .before .before in
+    let start = list .before .before .before .before .before .before .before .before .before .before .before in (
       start .pre .0,
       (
-        resize-roomy _ _ _ _ _ _ _ _ _ (start .pre .1 .1 .0) _ _ (worn .is-worn .ensures) (fresh .if1 .left) _ (list .list .ensures .0 .0) _
-            (room .before .lacks-room .ensures) (room .if2 .left) (start .pre .1 .0) _ (list .list .ensures .1) _ (count .leaf-count .ensures),
+        resize-roomy _ _ _ _ _ _ _ _ _ (start .pre .1 .1 .0) _ _ (list .list .ensures .0 .0) _ (barred .barred .ensures) (passed .if1 .left)
+            (start .pre .1 .0) _ (list .list .ensures .1) _ (count .leaf-count .ensures),
         start .pre .1 .1 .1 .0,
       ),
     )
+
+same-length-3 : tie.Need-same-length-3
+same-length-3 c = search needs
 
 same-length-4 : tie.Need-same-length-4
 same-length-4 c = search needs
@@ -77,43 +67,35 @@ same-length-7 c = search needs
 same-length-8 : tie.Need-same-length-8
 same-length-8 c = search needs
 
-same-length-9 : tie.Need-same-length-9
-same-length-9 c = search needs
-
-returns-3 : tie.Need-returns-3
-returns-3 c =
+returns-2 : tie.Need-returns-2
+returns-2 c =
     let blob = c .before .before .before .before .before .before .before .before .before .before in
-    let room = blob .before .before .before .before .before .before .before .before .before in
-    let list = room .before .before .before .before in
-    let fresh = list .before .before .before in
-    let worn = fresh .before in
-    let start = worn .before .before .before .before .before .before .before .before .before .before in
-    resize-done _ _ _ _ _ _ _ _ _ (start .pre .1 .1 .0) _ _ (worn .is-worn .ensures) (fresh .if1 .left) _ (list .list .ensures .0 .0) _
-    (room .before .lacks-room .ensures) (room .if2 .left) _ _ (blob .resize-blob .ensures .0) (blob .resize-blob .ensures .1)
+    let passed = blob .before .before .before .before .before .before .before .before .before in
+    let barred = passed .before in
+    let list = barred .before .before .before .before in
+    let start = list .before .before .before .before .before .before .before .before .before .before .before in
+    resize-done _ _ _ _ _ _ _ _ _ (start .pre .1 .1 .0) _ _ (list .list .ensures .0 .0) _ (barred .barred .ensures) (passed .if1 .left) _ _
+    (blob .resize-blob .ensures .0) (blob .resize-blob .ensures .1)
 
 pub resize-found-spec : {M : Type 1} → statement M
 resize-found-spec =
     tie.close
     (tie.spec
-    is-worn-requires
+    list-requires
+    barred-requires
     refuse-nowhere-requires
     same-length
-    returns
-    list-requires
-    lacks-room-requires
-    refuse-nowhere-requires-2
     same-length-2
-    same-length-3
-    returns-2
+    returns
     leaf-count-requires
     sub-resize-blob
     part-resize-blob-start
     part-resize-blob-end
     resize-blob-requires
+    same-length-3
     same-length-4
     same-length-5
     same-length-6
     same-length-7
     same-length-8
-    same-length-9
-    returns-3)
+    returns-2)

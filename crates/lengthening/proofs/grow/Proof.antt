@@ -1,5 +1,5 @@
 -- The root's block is kept, so what is planned is planned with that block.
-use Rattle.lengthening.proofs.Turns.{root-place, kept-root, kept-puts}
+use Rattle.lengthening.proofs.Kept.{root-place, kept-root, kept-puts}
 use borrow.Author.Needs.{needs}
 use Rattle.lengthening.proofs.grow.Statement.{statement}
 use Rattle.lengthening.proofs.grow.Tie as tie

@@ -1,7 +1,8 @@
 -- Refusals 1 and 2 handed on, or the leaf's place behind them.
 use Rattle.gate.proofs.Laws.{gate-whole}
 use Rattle.reading.proofs.Lending.{flags-reach, flags-lent, row-reaches, row-lent}
-use Rattle.locating.proofs.Laws.{leaf-barred, leaf-behind, refused-lies}
+use Rattle.placing.proofs.Laws.{refused-lies}
+use Rattle.locating.proofs.Laws.{leaf-barred, leaf-behind}
 use borrow.Author.Needs.{needs}
 use Rattle.locating.proofs.find_leaf_call.Statement.{statement}
 use Rattle.locating.proofs.find_leaf_call.Tie as tie

@@ -1,6 +1,7 @@
 -- The refusal handed on, or the leaf in the row.
 use Rattle.reading.proofs.Rows.{found-length}
-use Rattle.locating.proofs.Laws.{leaf-refused, found-below, leaf-found, refused-lies}
+use Rattle.placing.proofs.Laws.{refused-lies}
+use Rattle.locating.proofs.Laws.{leaf-refused, found-below, leaf-found}
 use borrow.Author.Needs.{needs}
 use Rattle.locating.proofs.find_leaf_in.Statement.{statement}
 use Rattle.locating.proofs.find_leaf_in.Tie as tie

@@ -2,15 +2,16 @@
 use Prim.Native.Nat.{ℕ, _<_}
 use native.Mathlib.Omega.{arith}
 use borrow.Author.Needs.{needs}
-use Rattle.position.proofs.Laws.{pow-down, edge-none, edge-below, edge-beside}
+use Rattle.subtrees.proofs.Laws.{pow-down}
+use Rattle.position.proofs.Laws.{edge-none, edge-below, edge-beside}
 use borrow.Fn.Kinds.{In}
 use borrow.Fn.PlainCycle.{Measures, is, falls, and}
 use Rattle.position.proofs.edge_seat.Reads as edge-seat
 use Rattle.position.proofs.edge_seat.Kinds as edge-seat-kinds
 use Rattle.position.proofs.+edge_seat.Lts-edge_seat as edge-seat-lts
 use Rattle.position.proofs.in_row.Reads as in-row-reads
-use Rattle.position.proofs.room.Reads as room-reads
-use Rattle.position.proofs.space.Reads as space-reads
+use Rattle.edge.proofs.room.Reads as room-reads
+use Rattle.edge.proofs.space.Reads as space-reads
 use Rattle.position.proofs.+edge_seat.{statement}
 use Rattle.position.proofs.+edge_seat.Tie.{close}
 

@@ -3,14 +3,15 @@
 use Prim.Native.Nat.{ℕ, _-_, _<_}
 use native.Mathlib.Omega.{arith}
 use borrow.Author.Needs.{needs}
-use Rattle.position.proofs.Laws.{pow-down, bulk-some, share-fits, sits-leaf, sits-top, sits-down}
+use Rattle.subtrees.proofs.Laws.{pow-down, bulk-some}
+use Rattle.position.proofs.Laws.{share-fits, sits-leaf, sits-top, sits-down}
 use borrow.Fn.Kinds.{In}
 use borrow.Fn.PlainCycle.{Measures, is, falls, and}
 use Rattle.position.proofs.locate.Reads as locate
 use Rattle.position.proofs.locate.Kinds as locate-kinds
 use Rattle.position.proofs.+locate.Lts-locate as locate-lts
-use Rattle.position.proofs.bulk.Reads as bulk-reads
-use Rattle.position.proofs.power.Reads as power-reads
+use Rattle.subtrees.proofs.bulk.Reads as bulk-reads
+use Rattle.subtrees.proofs.power.Reads as power-reads
 use Rattle.position.proofs.+locate.{statement}
 use Rattle.position.proofs.+locate.Tie.{close}
 

@@ -1,7 +1,8 @@
 -- `position::in_row` meets its contract: the definition is the same, and a row has no more leaves than blocks.
 use native.Mathlib.Omega.{arith}
 use borrow.Author.Needs.{needs}
-use Rattle.position.proofs.Laws.{bulk-some, share-fits, sits-row}
+use Rattle.subtrees.proofs.Laws.{bulk-some}
+use Rattle.position.proofs.Laws.{share-fits, sits-row}
 use Rattle.position.proofs.in_row.Statement.{statement}
 use Rattle.position.proofs.in_row.Tie as tie
 

@@ -22,8 +22,8 @@ use Rattle.sites.proofs.+note_block+note_child+note_row.Lts-note_child 
 use Rattle.sites.proofs.note_row.Reads as note-row
 use Rattle.sites.proofs.note_row.Kinds as note-row-kinds
 use Rattle.sites.proofs.+note_block+note_child+note_row.Lts-note_row as note-row-lts
-use Rattle.block.proofs.check.count_of.Reads as count-of-reads
-use Rattle.sites.proofs.note_slot.Reads as note-slot-reads
+use Rattle.fields.proofs.count_of.Reads as count-of-reads
+use Rattle.marking.proofs.note_slot.Reads as note-slot-reads
 use Rattle.slot.proofs.block_of.Reads as block-of-reads
 use Rattle.visit.proofs.child_of.Reads as child-of-reads
 use Rattle.sites.proofs.+note_block+note_child+note_row.{statement}

@@ -1,6 +1,6 @@
 -- A leaf or an inner block, one higher than the lower function's number.
 use Rattle.laws.proofs.Checks.{leaf-fits, inner-most}
-use Rattle.position.proofs.Laws.{low-power}
+use Rattle.subtrees.proofs.Laws.{low-power}
 use Rattle.trimming.proofs.Laws.{cut-lowest, cut-higher}
 use borrow.Author.Needs.{needs}
 use Rattle.trimming.proofs.draw_cut.Statement.{statement}

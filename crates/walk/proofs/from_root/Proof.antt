@@ -1,6 +1,5 @@
 -- The block visit of a root, from its own height on.
-use Rattle.walk.proofs.Laws.{root-is}
-use Rattle.walk.proofs.Bounds.{root-in-pool, root-start}
+use Rattle.walk.proofs.Laws.{root-is, root-in-pool, root-start}
 use borrow.Author.Needs.{needs}
 use Rattle.walk.proofs.from_root.Statement.{statement}
 use Rattle.walk.proofs.from_root.Tie as tie

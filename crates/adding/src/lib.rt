@@ -1,0 +1,39 @@
+// A new block of a blob that gets longer, drawn without writing to the store: it stands on the old right edge, or is made as the root rises.
+use drawing::Growth;
+use meaning::Edition;
+use payload::Drawn;
+use towers::Tower;
+ghost use mathlib.Core.Path.{_≡_};
+ghost use Prim.Native.Nat.{_+_, _-_, _<_};
+ghost use lib.ListN.{length};
+ghost use Rattle.meaning.specs.Edition.{Proper};
+ghost use Rattle.laws.proofs.Codec.{rowOf};
+ghost use Rattle.growth.specs.Forms.{grownNew};
+ghost use Rattle.payload.specs.Draws.{Draws};
+ghost use Rattle.drawing.specs.Grows.{Grows};
+ghost use Rattle.towers.specs.Towers.{Towers, RootBlock};
+
+// The new block that is made p-th: on the right edge, or as the root rises.
+pub fn draw_new(
+    e: Edition,
+    g: Growth,
+    t: Tower,
+    free: &[u32],
+    kept: &[u8],
+    payload: &mut [u8],
+    p: usize,
+) -> Drawn
+    requires { ⌜ Proper e ⌝ }
+    requires { ⌜ Grows e g ⌝ }
+    requires { ⌜ Towers e g t ⌝ }
+    requires { ⌜ RootBlock e g t (now kept) ⌝ }
+    requires { ⌜ (length (now payload) ≡ e .leaf) × (p < t .taken) ⌝ }
+    ensures { λ r. ⌜ Draws e (grownNew e (g .length) (g .leaves) (now (free .entry)) (t .top - t .height) (t .height) (rowOf (t .height) (now (kept .entry))) p) r (now (payload .exit)) ⌝ }
+{
+    let number = p + t.blocks;
+    if number < subtrees::bulk(e.fan, t.height) {
+        let s = position::edge_seat(e.fan, t.height, g.leaves, p);
+        return drawing::draw_fresh(e, g, free, payload, s.height, s.first, p);
+    }
+    storeys::draw_risen(e, g, t, free, kept, payload, p, number)
+}
