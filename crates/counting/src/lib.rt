@@ -115,12 +115,12 @@ pub fn count_shortening(
     ensures { λ r. ⌜ r ≤ n ⌝ }
 {
     let mut i = 0;
-    let mut m = 0;
+    let mut count = 0;
     while i < n {
-        m += shortening_at(e, c, pool, heights, firsts, kept, payload, root, i);
+        count += shortening_at(e, c, pool, heights, firsts, kept, payload, root, i);
         i += 1;
     }
-    m
+    count
 }
 
 // How many changes slot i has in a write: one, or none.
@@ -162,12 +162,12 @@ pub fn count_writing(
     ensures { λ r. ⌜ r ≤ n ⌝ }
 {
     let mut i = 0;
-    let mut m = 0;
+    let mut count = 0;
     while i < n {
-        m += writing_at(e, pool, heights, firsts, src, offset, i);
+        count += writing_at(e, pool, heights, firsts, src, offset, i);
         i += 1;
     }
-    m
+    count
 }
 
 // How many slots a delete changes.
@@ -177,10 +177,10 @@ pub fn count_clearing(heights: &[u8], n: usize) -> usize
     ensures { λ r. ⌜ r ≤ n ⌝ }
 {
     let mut i = 0;
-    let mut m = 0;
+    let mut count = 0;
     while i < n {
-        m += usable::one_if(heights[i] != 0);
+        count += usable::one_if(heights[i] != 0);
         i += 1;
     }
-    m
+    count
 }

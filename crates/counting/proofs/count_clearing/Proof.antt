@@ -6,10 +6,10 @@ use Rattle.counting.proofs.count_clearing.Statement.{statement}
 use Rattle.counting.proofs.count_clearing.Tie as tie
 
 abbrev Inv-loop : tie.InvT-loop
-Inv-loop heights n i₀ m₀ i m = Counting (cleared heights) n i m
+Inv-loop heights n i₀ count₀ i count = Counting (cleared heights) n i count
 
 abbrev μ-loop : tie.MeasureT-loop
-μ-loop heights n i₀ m₀ i m = n - i
+μ-loop heights n i₀ count₀ i count = n - i
 
 loop-holds : tie.Need-loop-holds Inv-loop μ-loop
 loop-holds c = search counting-start
@@ -20,8 +20,8 @@ shared-slice-read-one-if c = search needs
 one-if-requires : tie.Need-one-if-requires Inv-loop μ-loop
 one-if-requires c κs = search needs
 
-add-m : tie.Need-add-m Inv-loop μ-loop
-add-m c = search counting-fits
+add-count : tie.Need-add-count Inv-loop μ-loop
+add-count c = search counting-fits
 
 add-i : tie.Need-add-i Inv-loop μ-loop
 add-i c = search needs
@@ -44,7 +44,7 @@ count-clearing-spec =
     loop-holds
     shared-slice-read-one-if
     one-if-requires
-    add-m
+    add-count
     add-i
     loop-less
     loop-again

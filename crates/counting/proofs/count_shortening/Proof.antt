@@ -10,11 +10,11 @@ use Rattle.counting.proofs.count_shortening.Statement.{statement}
 use Rattle.counting.proofs.count_shortening.Tie as tie
 
 abbrev Inv-loop : tie.InvT-loop
-Inv-loop e c pool heights firsts kept payload₀ n root i₀ m₀ payload i m =
-    Counting (λ (R : List ℕ). cutPlan e c heights firsts kept root pool R) n i m × (length payload ≡ e .leaf)
+Inv-loop e c pool heights firsts kept payload₀ n root i₀ count₀ payload i count =
+    Counting (λ (R : List ℕ). cutPlan e c heights firsts kept root pool R) n i count × (length payload ≡ e .leaf)
 
 abbrev μ-loop : tie.MeasureT-loop
-μ-loop e c pool heights firsts kept payload₀ n root i₀ m₀ payload i m = n - i
+μ-loop e c pool heights firsts kept payload₀ n root i₀ count₀ payload i count = n - i
 
 loop-holds : tie.Need-loop-holds Inv-loop μ-loop
 loop-holds c = (search counting-start, search needs)
@@ -22,8 +22,8 @@ loop-holds c = (search counting-start, search needs)
 shortening-at-requires : tie.Need-shortening-at-requires Inv-loop μ-loop
 shortening-at-requires c κs = (search needs, (search needs, (search needs, (search cut-here, search needs))))
 
-add-m : tie.Need-add-m Inv-loop μ-loop
-add-m c = search counting-fits
+add-count : tie.Need-add-count Inv-loop μ-loop
+add-count c = search counting-fits
 
 add-i : tie.Need-add-i Inv-loop μ-loop
 add-i c = search needs
@@ -48,7 +48,7 @@ count-shortening-spec =
     μ-loop
     loop-holds
     shortening-at-requires
-    add-m
+    add-count
     add-i
     loop-less
     loop-again

@@ -8,10 +8,10 @@ use Rattle.counting.proofs.count_writing.Statement.{statement}
 use Rattle.counting.proofs.count_writing.Tie as tie
 
 abbrev Inv-loop : tie.InvT-loop
-Inv-loop e pool heights firsts src n offset i₀ m₀ i m = Counting (λ (R : List ℕ). writePlan e pool R heights firsts src offset) n i m
+Inv-loop e pool heights firsts src n offset i₀ count₀ i count = Counting (λ (R : List ℕ). writePlan e pool R heights firsts src offset) n i count
 
 abbrev μ-loop : tie.MeasureT-loop
-μ-loop e pool heights firsts src n offset i₀ m₀ i m = n - i
+μ-loop e pool heights firsts src n offset i₀ count₀ i count = n - i
 
 loop-holds : tie.Need-loop-holds Inv-loop μ-loop
 loop-holds c = search counting-start
@@ -19,8 +19,8 @@ loop-holds c = search counting-start
 writing-at-requires : tie.Need-writing-at-requires Inv-loop μ-loop
 writing-at-requires c κs = (search needs, (search write-place, search write-counted))
 
-add-m : tie.Need-add-m Inv-loop μ-loop
-add-m c = search counting-fits
+add-count : tie.Need-add-count Inv-loop μ-loop
+add-count c = search counting-fits
 
 add-i : tie.Need-add-i Inv-loop μ-loop
 add-i c = search needs
@@ -42,7 +42,7 @@ count-writing-spec =
     μ-loop
     loop-holds
     writing-at-requires
-    add-m
+    add-count
     add-i
     loop-less
     loop-again

@@ -3,8 +3,8 @@ use mathlib.Core.Path.{_≡_}
 use Prim.Native.Nat.{_≤_, _-_}
 use borrow.Author.Needs.{needs}
 use lib.ListN.{length}
-use Rattle.vectors_change.proofs.script.call_all.Statement.{statement}
-use Rattle.vectors_change.proofs.script.call_all.Tie as tie
+use Rattle.vectors_change_steps.proofs.call_all.Statement.{statement}
+use Rattle.vectors_change_steps.proofs.call_all.Tie as tie
 
 abbrev Inv-loop : tie.InvT-loop
 Inv-loop label c pool₀ records₀ i₀ pool records i = (i ≤ 5) × ((length pool ≡ length pool₀) × (length records ≡ length records₀))
