@@ -25,19 +25,19 @@ use Rattle.meaning.specs.Run.{create, write, resize, delete, says, perform}
 use Rattle.laws.proofs.Inversions.{by-test, true-both, same-self, never}
 use Rattle.laws.proofs.Codec.{state-of, recorded-of}
 use Rattle.laws.proofs.Roots.{in-range, in-filter}
-use Rattle.resizing.proofs.Slots.{times, member-times, times-member}
-use Rattle.resizing.proofs.Resized.{resized-taken, resized-from}
-use Rattle.sound.proofs.Cells.{cellSlots}
-use Rattle.sound.proofs.Slots.{by-times, times-none}
-use Rattle.sound.proofs.Blobs.{Lies, lies-within}
-use Rattle.sound.proofs.Pools.{pool-one}
-use Rattle.sound.proofs.Puts.{made, then-pool, then-block, then-record}
-use Rattle.sound.proofs.After.{held-none, held-some, same-cell}
-use Rattle.again.proofs.Parting.{blob-met}
-use Rattle.again.proofs.Outcomes.{Opens, opened-done, afterCheck-done, refuseIf-done, done-same, sized-lengths, Lengths, changing-done, among-lies}
-use Rattle.again.proofs.Done.{emptyBlob, create-done, delete-done, among-others}
-use Rattle.again.proofs.Turned as again
-use Rattle.again.proofs.Turned.{write-done, resize-done}
+use Rattle.laws_resize.proofs.resizing.Slots.{times, member-times, times-member}
+use Rattle.laws_resize.proofs.resizing.Resized.{resized-taken, resized-from}
+use Rattle.laws_sound.proofs.sound.Cells.{cellSlots}
+use Rattle.laws_sound.proofs.sound.Slots.{by-times, times-none}
+use Rattle.laws_sound.proofs.sound.Blobs.{Lies, lies-within}
+use Rattle.laws_sound.proofs.sound.Pools.{pool-one}
+use Rattle.laws_sound.proofs.sound.Puts.{made, then-pool, then-block, then-record}
+use Rattle.laws_sound.proofs.sound.After.{held-none, held-some, same-cell}
+use Rattle.laws_sound.proofs.again.Parting.{blob-met}
+use Rattle.laws_sound.proofs.again.Outcomes.{Opens, opened-done, afterCheck-done, refuseIf-done, done-same, sized-lengths, Lengths, changing-done, among-lies}
+use Rattle.laws_sound.proofs.again.Done.{emptyBlob, create-done, delete-done, among-others}
+use Rattle.laws_sound.proofs.again.Turned as again
+use Rattle.laws_sound.proofs.again.Turned.{write-done, resize-done}
 use Rattle.promises.proofs.Stores.{said-done, good-is, pool-is}
 use Rattle.promises.specs.Demands.{slotsAt, freeAt, newAt, Turns, Passes, Became, Freed}
 

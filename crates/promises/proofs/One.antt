@@ -24,8 +24,8 @@ use Rattle.meaning.specs.Calls.{deleteOn, deleteIn, lengthCall, readCall, showC
 use Rattle.meaning.specs.Answers.{refuses, shownPart}
 use Rattle.meaning.specs.Run.{Call, create, audit, write, resize, delete, length, read, showLeaf, saidBy, says}
 use Rattle.laws.proofs.Inversions.{fine-same}
-use Rattle.sound.proofs.Pools.{pool-found}
-use Rattle.again.proofs.Outcomes.{sized-lengths, blob-among, among-met, among-walk}
+use Rattle.laws_sound.proofs.sound.Pools.{pool-found}
+use Rattle.laws_sound.proofs.again.Outcomes.{sized-lengths, blob-among, among-met, among-walk}
 use Rattle.promises.proofs.Stores.{said-refused, refused-said}
 use Rattle.promises.proofs.Faults.{by-then}
 use Rattle.promises.proofs.Refused.{done-refused, by-if, by-check, check-refused, check-passed}

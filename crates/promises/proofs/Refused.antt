@@ -16,7 +16,7 @@ use Rattle.meaning.specs.Walk.{Found, fault, fine}
 use Rattle.meaning.specs.Change.{Change, Store}
 use Rattle.meaning.specs.Calls.{Outcome, refused, done, refuseIf, afterCheck, refuseBadRecord, sized, opened, rooted, refuseWorn}
 use Rattle.laws.proofs.Inversions.{by-test, both-true, true-both, never}
-use Rattle.again.proofs.Outcomes.{opens-passes}
+use Rattle.laws_sound.proofs.again.Outcomes.{opens-passes}
 use Rattle.promises.specs.Demands.{slotsAt, IsRoot, Opened, Worn}
 
 -- one refused outcome is one refusal

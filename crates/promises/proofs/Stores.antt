@@ -22,14 +22,14 @@ use Rattle.meaning.specs.Answers.{yields, refuses, shownPart}
 use Rattle.meaning.specs.Run.{length, read, showLeaf, saidBy, says}
 use Rattle.laws.proofs.Numbers.{part-part}
 use Rattle.laws.proofs.Walked.{mem-at, walk-here, LeafHere}
-use Rattle.resizing.proofs.Slots.{times-cons}
-use Rattle.sound.proofs.Slots.{marked, times-same}
-use Rattle.sound.proofs.Cells.{Every}
-use Rattle.sound.proofs.Blobs.{Lies, lies-within}
-use Rattle.sound.proofs.Pools.{Pool, pool-found, pool-passes, slots-root}
-use Rattle.again.proofs.Outcomes.{Opens, opens-passes, Lengths, sized-lengths, Among, blob-among, among-walk, among-reading}
-use Rattle.again.proofs.Done.{Good, among-others}
-use Rattle.again.proofs.Runs.{good-passes}
+use Rattle.laws_resize.proofs.resizing.Slots.{times-cons}
+use Rattle.laws_sound.proofs.sound.Slots.{marked, times-same}
+use Rattle.laws_sound.proofs.sound.Cells.{Every}
+use Rattle.laws_sound.proofs.sound.Blobs.{Lies, lies-within}
+use Rattle.laws_sound.proofs.sound.Pools.{Pool, pool-found, pool-passes, slots-root}
+use Rattle.laws_sound.proofs.again.Outcomes.{Opens, opens-passes, Lengths, sized-lengths, Among, blob-among, among-walk, among-reading}
+use Rattle.laws_sound.proofs.again.Done.{Good, among-others}
+use Rattle.laws_sound.proofs.again.Runs.{good-passes}
 use Rattle.promises.specs.Demands.{slotsAt, blobAt, Opened, Passes}
 
 -- a claim of each element, and of every member

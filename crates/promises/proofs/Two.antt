@@ -22,11 +22,11 @@ use Rattle.laws.proofs.Codec.{padded-length}
 use Rattle.laws.proofs.Heights.{height-enough, height-least}
 use Rattle.laws.proofs.Shapes.{shaped-leaves, shaped-height, shaped-slots, bare, blank, outline, one-shape}
 use Rattle.laws.proofs.Walked.{walk-shaped}
-use Rattle.resizing.proofs.Slots.{slots-for}
-use Rattle.resizing.proofs.Resized.{none-new}
-use Rattle.again.proofs.Outcomes.{sized-lengths}
-use Rattle.again.proofs.Done.{Good}
-use Rattle.again.proofs.Runs.{run-good, run-live, run-end}
+use Rattle.laws_resize.proofs.resizing.Slots.{slots-for}
+use Rattle.laws_resize.proofs.resizing.Resized.{none-new}
+use Rattle.laws_sound.proofs.again.Outcomes.{sized-lengths}
+use Rattle.laws_sound.proofs.again.Done.{Good}
+use Rattle.laws_sound.proofs.again.Runs.{run-good, run-live, run-end}
 use Rattle.promises.proofs.Stores.{every-mem, in-middle, good-is, gives-length, gives-bytes, gives-leaf}
 use Rattle.promises.proofs.Done.{create-turns, write-turns, resize-turns, delete-turns}
 use Rattle.promises.specs.Demands.{slotsAt, blobAt, newAt, Opened, bareTree, shapeOf, Passes, Became, DemandTwo}

@@ -10,9 +10,9 @@ use Rattle.meaning.specs.declared.Edition.{Edition}
 use Rattle.meaning.specs.declared.Created.{Created}
 use Rattle.meaning.specs.declared.Changed.{Changed}
 use Rattle.meaning.specs.declared.Finished.{Finished}
-use Rattle.surveying.specs.Reached.{Rows}
-use Rattle.fitting.specs.Found.{Drafts}
-use Rattle.store_reads.proofs.Opening.{flags-here, long-here}
+use Rattle.check_survey.specs.Reached.{Rows}
+use Rattle.call_resize.specs.fit.Found.{Drafts}
+use Rattle.store.proofs.reads.Opening.{flags-here, long-here}
 
 module _ (e : Edition) (ee : e ≡ one) where
   -- rows of 1,024 places have one for every slot

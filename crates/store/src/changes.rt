@@ -11,7 +11,7 @@ pub fn wipe(pool: &mut [u8], records: &mut [u8]) -> Finished
     ensures { λ r. ⌜ Wipes one (now (pool .entry)) (now (records .entry)) r (now (pool .exit)) (now (records .exit)) ⌝ }
 {
     let e = meaning::edition_one();
-    wiping::wipe_call(e, pool, records)
+    call_wipe::wipe_call(e, pool, records)
 }
 
 // A new empty blob, in the lowest usable free slot.
@@ -22,7 +22,7 @@ pub fn create(pool: &mut [u8], records: &mut [u8]) -> Created
     let mut seen = [0u8; 1024];
     let mut row = [0u32; 0];
     let mut scratch = [0u8; 64];
-    making::create_call(e, pool, records, &mut seen, &mut row, &mut scratch)
+    call_create::create_call(e, pool, records, &mut seen, &mut row, &mut scratch)
 }
 
 // Every block of a blob goes.
@@ -35,7 +35,7 @@ pub fn delete(pool: &mut [u8], records: &mut [u8], root: u64) -> Changed
     let mut heights = [0u8; 1024];
     let mut firsts = [0u32; 1024];
     let mut scratch = [0u8; 64];
-    clearing::delete_call(
+    call_delete::delete_call(
         e,
         pool,
         records,
@@ -57,7 +57,7 @@ pub fn write(pool: &mut [u8], records: &mut [u8], root: u64, offset: u64, src: &
     let mut row = [0u32; 1024];
     let mut heights = [0u8; 1024];
     let mut firsts = [0u32; 1024];
-    writing::write_call(
+    call_write::write_call(
         e,
         pool,
         records,
@@ -83,7 +83,7 @@ pub fn resize(pool: &mut [u8], records: &mut [u8], root: u64, length: u64) -> Ch
     let mut kept = [0u8; 64];
     let mut payload = [0u8; 48];
     let mut scratch = [0u8; 64];
-    sizing::resize_call(
+    call_resize::resize_call(
         e,
         pool,
         records,

@@ -1,6 +1,7 @@
 // The script's commands, one after the other.
-use vectors_text::next;
-use vectors_text::text;
+use vectors_play::steps;
+use vectors_script::next;
+use vectors_script::text;
 
 // Each turn takes a byte of the script or more.
 pub fn play(text: &[u8], pool: &mut [u8], records: &mut [u8]) {
@@ -9,7 +10,7 @@ pub fn play(text: &[u8], pool: &mut [u8], records: &mut [u8]) {
     while turns < 65536 {
         let c = text::command_at(text, place.at);
         place = next::after(text, c, place);
-        vectors_change_steps::carry_out(text, c, place, pool, records);
+        steps::carry_out(text, c, place, pool, records);
         turns += 1;
     }
 }

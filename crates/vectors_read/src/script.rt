@@ -1,15 +1,17 @@
 // The script's commands, one after the other.
-use vectors_text::next;
-use vectors_text::next::Place;
-use vectors_text::steps;
-use vectors_text::text;
-use vectors_text::text::Command;
+use vectors_play::reads;
+use vectors_script::lay;
+use vectors_script::next;
+use vectors_script::next::Place;
+use vectors_script::steps;
+use vectors_script::text;
+use vectors_script::text::Command;
 
 // A command's steps.
 fn call_all(label: &[u8], c: Command, pool: &[u8], records: &[u8]) {
     let mut i: usize = 0;
     while i < 5 {
-        vectors_read_calls::call(label, steps::step(c, i), pool, records);
+        reads::call(label, steps::step(c, i), pool, records);
         i += 1;
     }
 }
@@ -23,7 +25,7 @@ fn call_within(label: &[u8], c: Command, place: Place, pool: &[u8], records: &[u
 
 // A command lays something out, or is carried out over the store that was.
 fn carry_out(text: &[u8], c: Command, place: Place, pool: &mut [u8], records: &mut [u8]) {
-    vectors_lay::lay(c, pool, records);
+    lay::lay(c, pool, records);
     let label = text::line_from(text, place.label);
     call_within(label, c, place, pool, records);
 }

@@ -1,5 +1,5 @@
 -- Create at edition one, with flags and a scratch block of its own.
-use Rattle.store_reads.proofs.Opening.{one-here, flags-here, scratch-here}
+use Rattle.store.proofs.reads.Opening.{one-here, flags-here, scratch-here}
 use Rattle.store.proofs.Changing.{create-one}
 use borrow.Author.Needs.{needs}
 use Rattle.store.proofs.changes.create.Statement.{statement}

@@ -1,5 +1,5 @@
 -- Delete at edition one, with rows and a scratch block of its own.
-use Rattle.store_reads.proofs.Opening.{one-here, scratch-here}
+use Rattle.store.proofs.reads.Opening.{one-here, scratch-here}
 use Rattle.store.proofs.Changing.{rows-here, delete-one}
 use borrow.Author.Needs.{needs}
 use Rattle.store.proofs.changes.delete.Statement.{statement}

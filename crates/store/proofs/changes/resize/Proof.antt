@@ -1,5 +1,5 @@
 -- Resize at edition one, with rows and drafts of its own.
-use Rattle.store_reads.proofs.Opening.{one-here}
+use Rattle.store.proofs.reads.Opening.{one-here}
 use Rattle.store.proofs.Changing.{rows-here, drafts-here, resize-one}
 use borrow.Author.Needs.{needs}
 use Rattle.store.proofs.changes.resize.Statement.{statement}

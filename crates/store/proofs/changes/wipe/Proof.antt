@@ -1,5 +1,5 @@
 -- Wipe at edition one.
-use Rattle.store_reads.proofs.Opening.{one-here}
+use Rattle.store.proofs.reads.Opening.{one-here}
 use Rattle.store.proofs.Changing.{wipe-one}
 use borrow.Author.Needs.{needs}
 use Rattle.store.proofs.changes.wipe.Statement.{statement}

@@ -1,5 +1,5 @@
 -- Write at edition one, with rows of its own.
-use Rattle.store_reads.proofs.Opening.{one-here}
+use Rattle.store.proofs.reads.Opening.{one-here}
 use Rattle.store.proofs.Changing.{rows-here, filled-here, write-one}
 use borrow.Author.Needs.{needs}
 use Rattle.store.proofs.changes.write.Statement.{statement}

@@ -1,1 +1,0 @@
-// Pure laws of calls that are done and of runs, in proofs/: no code stands here.

@@ -1,0 +1,3 @@
+// Numbers, and runs of bytes, in lent slices.
+pub mod number;
+pub mod runs;

@@ -1,0 +1,3 @@
+// A length's leaves, height and block total, and whether the free slots are enough.
+pub mod shape;
+pub mod vacancy;

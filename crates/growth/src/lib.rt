@@ -1,1 +1,0 @@
-// Pure laws of longer, shorter and written blobs, slot by slot, in proofs/: no code stands here.

@@ -1,0 +1,3 @@
+pub mod growth
+pub mod resizing
+pub mod rising

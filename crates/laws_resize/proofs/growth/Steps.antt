@@ -1,0 +1,203 @@
+-- The forms, case by case and step by step: the equations that a program's branches and loop turns cite.
+use mathlib.Core.Path.{_≡_, refl, ap, _∙_}
+use mathlib.Core.Bool.{Bool, true, false}
+use mathlib.Core.List.{List, _++_, append-nil}
+use Prim.Native.Nat.{ℕ, zero, suc, _+_, _-_, _*_, _/_, _%_, _^_, _≤_, _<_, min}
+use native.Mathlib.Nat.{zero-min, mul-le-mul-right}
+use native.Mathlib.Omega.{arith}
+use lib.Dec.{eqb}
+use lib.ListN.{length, getD, replicate, length-append, List·getD-append}
+use borrow.Author.Tests.{lt-ltb, le-ltb, eq-eqb, ne-eqb, le-leb, lt-leb}
+use Rattle.meaning.specs.declared.Edition.{Edition}
+use Rattle.meaning.specs.Lists.{pick, both}
+use Rattle.meaning.specs.Bytes.{Cell}
+use Rattle.meaning.specs.Tree.{nothing, just}
+use Rattle.meaning.specs.Shape.{up, leavesFor}
+use Rattle.laws_resize.specs.growth.Sites.{Site}
+use Rattle.laws_resize.specs.growth.Cuts.{cutRow, gone, cut, heightOfLength, replaced, shortened}
+use Rattle.laws_resize.specs.growth.Forms.{past, every, bulk, locate, inRow, room, space}
+use Rattle.laws_resize.specs.growth.Forms.{seat, places, newRow, freshCell, above, rootCell, tallCell, newCell}
+use Rattle.laws_resize.specs.growth.Forms.{newLeaves, grownRow}
+use Rattle.laws.proofs.Codec.{padded-fits}
+use Rattle.meaning.specs.Resize.{share}
+use lib.Seq.{getD-append-add}
+
+-- slots taken at equal steps: so many, and each its steps further
+pub every-length : (free : List ℕ) (size c k : ℕ) → length (every free size c k) ≡ c
+unfolding every
+every-length free size zero k = refl
+every-length free size (suc c) k = ap suc (every-length free size c (k + size))
+
+pub every-at : (free : List ℕ) (size c k i : ℕ) → i < c → getD (every free size c k) i past ≡ getD free (k + i * size) past
+unfolding every
+every-at free size zero k i less = absurd (omega arith)
+every-at free size (suc c) k zero less = let z : k + 0 * size ≡ k = omega arith in rw z
+every-at free size (suc c) k (suc i) less =
+    let z : k + suc i * size ≡ k + size + i * size = omega arith in
+    rw z (every-at free size c (k + size) i (omega arith))
+
+-- a higher full subtree has more blocks
+bulk-more : (fan h : ℕ) → 1 ≤ fan → bulk fan h < bulk fan (suc h)
+unfolding bulk
+bulk-more fan h some = omega (arith, mul-le-mul-right (bulk fan h) some)
+
+bulk-above : (fan g d : ℕ) → 1 ≤ fan → bulk fan g ≤ bulk fan (d + g)
+bulk-above fan g zero some = let z : 0 + g ≡ g = omega arith in rw z (omega arith)
+bulk-above fan g (suc d) some =
+    let z : suc d + g ≡ suc (d + g) = omega arith in
+    rw z (omega (arith, bulk-above fan g d some, bulk-more fan (d + g) some))
+
+pub bulk-rises : (fan g h : ℕ) → 1 ≤ fan → g ≤ h → bulk fan g ≤ bulk fan h
+bulk-rises fan g h some low = let z : h ≡ (h - g) + g = omega arith in rw z (bulk-above fan g (h - g) some)
+
+module _ (fan : ℕ) where
+  -- the place of a block in a new subtree: the top, a leaf, or in the child that p falls into
+  pub locate-top : (h : ℕ) → locate fan h 0 ≡ (h, 0)
+  unfolding locate
+  locate-top zero = refl
+  locate-top (suc h) = refl
+
+  pub locate-leaf : (p : ℕ) → locate fan 0 p ≡ (0, 0)
+  unfolding locate
+  locate-leaf p = refl
+
+  pub locate-down : (h p : ℕ) → locate fan (suc h) (suc p)
+      ≡ (locate fan h (p % bulk fan h) .0, p / bulk fan h * fan ^ h + locate fan h (p % bulk fan h) .1)
+  unfolding locate
+  locate-down h p = refl
+
+  -- the place of a new block of the right edge: below, or beside the last child
+  pub seat-below : (h n p : ℕ) → p < space fan h n → seat fan (suc h) n p ≡ seat fan h n p
+  unfolding seat pick
+  seat-below h n p less = rw (lt-ltb p (space fan h n) less)
+
+  pub seat-beside : (h n p : ℕ) → space fan h n ≤ p → seat fan (suc h) n p ≡ inRow fan h (room fan h n) (p - space fan h n)
+  unfolding seat pick
+  seat-beside h n p past = rw (le-ltb p (space fan h n) past)
+
+module _ (fan m : ℕ) (bytes : ℕ → ℕ) (free : List ℕ) where
+  -- a new leaf, and a new inner block: its height, its children, and the slot of each
+  pub fresh-leaf : (j k : ℕ) → freshCell fan m bytes free 0 j k ≡ record { height = 0; row = replicate (bytes j) 0 }
+  unfolding freshCell
+  fresh-leaf j k = refl
+
+  pub fresh-count : (h j k : ℕ) → length (freshCell fan m bytes free (suc h) j k .row) ≡ min fan (up (m - j) (fan ^ h))
+  unfolding freshCell newRow places
+  fresh-count h j k = every-length free (bulk fan h) (min fan (up (m - j) (fan ^ h))) (suc k)
+
+  pub fresh-child : (h j k c : ℕ) → c < min fan (up (m - j) (fan ^ h))
+      → getD (freshCell fan m bytes free (suc h) j k .row) c past ≡ getD free (k + 1 + c * bulk fan h) past
+  unfolding freshCell newRow places
+  fresh-child h j k c less =
+      let z : k + 1 + c * bulk fan h ≡ suc k + c * bulk fan h = omega arith in
+      every-at free (bulk fan h) (min fan (up (m - j) (fan ^ h))) (suc k) c less ∙ rw z
+
+  -- the root stays as it is once no leaf is left, and else rises
+  pub root-stays : (k h j b : ℕ) (top : Cell) → m ≤ j → rootCell fan m bytes free (suc k) h j b top ≡ top
+  unfolding rootCell pick
+  root-stays k h j b top done = rw (le-ltb j m done)
+
+  pub root-rises : (k h j b : ℕ) (top : Cell) → j < m → rootCell fan m bytes free (suc k) h j b top
+      ≡ rootCell fan m bytes free k (suc h) (j + (fan - 1) * fan ^ h) (suc b + (fan - 1) * bulk fan h) (above fan m bytes free h j b)
+  unfolding rootCell pick
+  root-rises k h j b top less = rw (lt-ltb j m less)
+
+  -- a new block: on the right edge, or as the root rises
+  pub new-edge : (k h : ℕ) (l : ℕ × ℕ) (j b : ℕ) (top : Cell) (p : ℕ) → p < b
+      → newCell fan m bytes free k h l j b top p ≡ freshCell fan m bytes free (l .0) (l .1) p
+  unfolding newCell pick
+  new-edge k h l j b top p less = rw (lt-ltb p b less)
+
+  pub new-tall : (k h : ℕ) (l : ℕ × ℕ) (j b : ℕ) (top : Cell) (p : ℕ) → b ≤ p
+      → newCell fan m bytes free k h l j b top p ≡ tallCell fan m bytes free k h j b top p
+  unfolding newCell pick
+  new-tall k h l j b top p past = rw (le-ltb p b past)
+
+  -- then it has what the root had, or stands beside it, or is made when the root is higher
+  pub tall-moved : (k h j b : ℕ) (top : Cell) → tallCell fan m bytes free (suc k) h j b top b ≡ top
+  unfolding tallCell pick
+  tall-moved k h j b top = rw (eq-eqb b b refl)
+
+  pub tall-beside : (k h j b : ℕ) (top : Cell) (p : ℕ) → b < p → p < suc b + (fan - 1) * bulk fan h
+      → tallCell fan m bytes free (suc k) h j b top p
+      ≡ freshCell fan m bytes free (inRow fan h j (p - suc b) .0) (inRow fan h j (p - suc b) .1) p
+  unfolding tallCell pick
+  tall-beside k h j b top p low high =
+      rw (ne-eqb p b (λ q. omega arith), lt-ltb p (suc b + (fan - 1) * bulk fan h) high)
+
+  pub tall-further : (k h j b : ℕ) (top : Cell) (p : ℕ) → suc b + (fan - 1) * bulk fan h ≤ p → tallCell fan m bytes free (suc k) h j b top p
+      ≡ tallCell fan m bytes free k (suc h) (j + (fan - 1) * fan ^ h) (suc b + (fan - 1) * bulk fan h) (above fan m bytes free h j b) p
+  unfolding tallCell pick
+  tall-further k h j b top p high =
+      rw (ne-eqb p b (λ q. omega arith), le-ltb p (suc b + (fan - 1) * bulk fan h) high)
+
+-- shorter, of a block that is not the root
+module _ (e : Edition) (len : ℕ) (x : Site) where
+  -- past the cut
+  pub short-gone : leavesFor (e .leaf) len ≤ x .first → shortened e len x ≡ nothing
+  unfolding shortened cut gone pick
+  short-gone late = rw (le-leb (leavesFor (e .leaf) len) (x .first) late) (none (replaced e len x))
+    where
+      none : (b : Bool) → pick b nothing (pick true nothing
+          (just (record { height = x .height; row = cutRow e len (x .height) (x .first) (x .row) }))) ≡ nothing
+      none true = refl
+      none false = refl
+
+  -- where the root comes down
+  pub short-replaced : x .first ≡ 0 → heightOfLength e len ≤ x .height → shortened e len x ≡ nothing
+  unfolding shortened replaced both pick
+  short-replaced left low = rw (eq-eqb (x .first) 0 left, le-leb (heightOfLength e len) (x .height) low)
+
+  -- kept, with its row cut: off the left edge
+  pub short-off : 1 ≤ x .first → x .first < leavesFor (e .leaf) len
+      → shortened e len x ≡ just (record { height = x .height; row = cutRow e len (x .height) (x .first) (x .row) })
+  unfolding shortened replaced cut gone both pick
+  short-off off early = rw (ne-eqb (x .first) 0 (λ q. omega arith), lt-leb (leavesFor (e .leaf) len) (x .first) early)
+
+  -- or lower than the new root
+  pub short-low : x .height < heightOfLength e len → x .first < leavesFor (e .leaf) len
+      → shortened e len x ≡ just (record { height = x .height; row = cutRow e len (x .height) (x .first) (x .row) })
+  unfolding shortened replaced cut gone both pick
+  short-low low early =
+      rw (lt-leb (heightOfLength e len) (x .height) low, lt-leb (leavesFor (e .leaf) len) (x .first) early) (kept (eqb (x .first) 0))
+    where
+      kept : (b : Bool) → pick (both b false) nothing
+          (pick false nothing (just (record { height = x .height; row = cutRow e len (x .height) (x .first) (x .row) })))
+          ≡ just (record { height = x .height; row = cutRow e len (x .height) (x .first) (x .row) })
+      kept true = refl
+      kept false = refl
+
+-- longer, of an old block that stays where it is
+module _ (e : Edition) (len n : ℕ) (free : List ℕ) where
+  -- how many new children of height h it gets, if it has that row
+  abbrev newChildren : (h : ℕ) → List ℕ → ℕ
+  newChildren h row = min (e .fan - length row) (up (newLeaves e len n free - room (e .fan) h n) (e .fan ^ h))
+
+  -- a leaf fills with zeros
+  pub grown-leaf : (i : ℕ) (row : List ℕ) → length row ≤ share e len i → grownRow e len n free 0 i row
+      ≡ row ++ replicate (share e len i - length row) 0
+  unfolding grownRow
+  grown-leaf i row fits = padded-fits (share e len i) row fits
+
+  -- an inner block has its children and the new ones
+  pub grown-count : (h i : ℕ) (row : List ℕ) → length (grownRow e len n free (suc h) i row) ≡ length row + newChildren h row
+  unfolding grownRow newRow places
+  grown-count h i row =
+      length-append row _ ∙ ap (_+_ (length row)) (every-length free (bulk (e .fan) h) (newChildren h row) (space (e .fan) h n))
+
+  -- the old ones where they were
+  pub grown-child : (h i : ℕ) (row : List ℕ) (c : ℕ) → c < length row → getD (grownRow e len n free (suc h) i row) c past ≡ getD row c past
+  unfolding grownRow
+  grown-child h i row c less = List·getD-append row _ past c less
+
+  -- and the new ones at equal steps among the usable slots
+  pub grown-fresh : (h i : ℕ) (row : List ℕ) (c : ℕ) → c < newChildren h row
+      → getD (grownRow e len n free (suc h) i row) (length row + c) past ≡ getD free (space (e .fan) h n + c * bulk (e .fan) h) past
+  unfolding grownRow newRow places
+  grown-fresh h i row c less =
+      getD-append-add row _ c past ∙ every-at free (bulk (e .fan) h) (newChildren h row) (space (e .fan) h n) c less
+
+  -- a full block stays as it is
+  pub grown-full : (h i : ℕ) (row : List ℕ) → length row ≡ e .fan → grownRow e len n free (suc h) i row ≡ row
+  unfolding grownRow newRow places every
+  grown-full h i row full = let z : e .fan - length row ≡ 0 = omega arith in rw (z, zero-min, append-nil)

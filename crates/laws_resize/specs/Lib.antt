@@ -1,0 +1,2 @@
+pub mod growth
+pub mod rising

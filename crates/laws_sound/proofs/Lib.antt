@@ -1,0 +1,2 @@
+pub mod again
+pub mod sound

@@ -1,0 +1,5 @@
+pub mod Plans
+pub mod enlarged
+pub mod fresh
+pub mod taken
+pub mod towers

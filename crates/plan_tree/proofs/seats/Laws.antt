@@ -1,0 +1,84 @@
+-- The seats of new blocks, as code computes them: what each definition is from one height lower, and bounds on it.
+-- Values come with their equations, `w ≡ fan ^ h`, as code has them.
+use mathlib.Core.Path.{_≡_, refl, sym, ap, _∙_}
+use Prim.Native.Nat.{ℕ, zero, suc, _+_, _-_, _*_, _/_, _%_, _^_, _≤_, _<_}
+use native.Mathlib.Nat.{mul-le-mul-left, div-add-mod'}
+use native.Mathlib.Omega.{arith}
+use Rattle.laws_resize.specs.growth.Forms.{bulk, locate, inRow, room, space, seat}
+use Rattle.laws_resize.proofs.growth.Steps.{locate-top, locate-leaf, locate-down, seat-below, seat-beside}
+use Rattle.plan_tree.proofs.subtrees.Laws.{bulk-leaves}
+use Rattle.plan_tree.specs.declared.seats.Seat.{Seat}
+use Rattle.plan_tree.specs.seats.{Sits}
+
+-- the leaves of the full subtrees before block p, and no more than the blocks of the rest, are p or fewer
+pub share-fits : (fan h p size w f : ℕ) → 1 ≤ fan → size ≡ bulk fan h → w ≡ fan ^ h → f ≤ p % size → p / size * w + f ≤ p
+share-fits fan h p size w f some whole wide rest =
+    let low : w ≤ size = omega (arith, bulk-leaves fan h some) in
+    omega (arith, mul-le-mul-left (p / size) low, div-add-mod' p size)
+
+-- where a block of a new subtree stands: a leaf, the top, or in a child
+pub sits-leaf : (fan h p : ℕ) → h ≡ 0 → Sits (record { height = 0; first = 0 }) (locate fan h p)
+sits-leaf fan h p is =
+    let e : locate fan h p ≡ (0, 0) = rw is (locate-leaf fan p) in
+    record { height = sym (ap (λ (l : ℕ × ℕ). l .0) e); first = sym (ap (λ (l : ℕ × ℕ). l .1) e) }
+
+pub sits-top : (fan h p : ℕ) → p ≡ 0 → Sits (record { height = h; first = 0 }) (locate fan h p)
+sits-top fan h p is =
+    let e : locate fan h p ≡ (h, 0) = rw is (locate-top fan h) in
+    record { height = sym (ap (λ (l : ℕ × ℕ). l .0) e); first = sym (ap (λ (l : ℕ × ℕ). l .1) e) }
+
+-- the definition's step down, from one height lower
+locate-back : (fan h p : ℕ) → (h ≡ 0 → ⊥) → (p ≡ 0 → ⊥) → locate fan h p ≡ (
+  locate fan (h - 1) ((p - 1) % bulk fan (h - 1)) .0,
+  (p - 1) / bulk fan (h - 1) * fan ^ (h - 1) + locate fan (h - 1) ((p - 1) % bulk fan (h - 1)) .1,
+)
+locate-back fan zero p tall more = absurd (tall refl)
+locate-back fan (suc h) zero tall more = absurd (more refl)
+locate-back fan (suc h) (suc p) tall more =
+    let y : suc h - 1 ≡ h = omega arith in
+    let z : suc p - 1 ≡ p = omega arith in
+    rw (y, z) (locate-down fan h p)
+
+-- so the seat in the child gives the seat in the subtree
+pub sits-down : (fan h p size w : ℕ) (s : Seat) → (h ≡ 0 → ⊥) → (p ≡ 0 → ⊥) → size ≡ bulk fan (h - 1) → w ≡ fan ^ (h - 1)
+    → Sits s (locate fan (h - 1) ((p - 1) % size))
+    → Sits (record { height = s .height; first = (p - 1) / size * w + s .first }) (locate fan h p)
+sits-down fan h p size w s tall more whole wide sits =
+    let e = locate-back fan h p tall more in
+    let at : Sits s (locate fan (h - 1) ((p - 1) % bulk fan (h - 1))) = rw whole at sits in
+    record {
+      height = at .height ∙ sym (ap (λ (l : ℕ × ℕ). l .0) e);
+      first = rw (whole, wide, at .first) (sym (ap (λ (l : ℕ × ℕ). l .1) e));
+    }
+
+-- and of a row of them
+pub sits-row : (fan h j p size w : ℕ) (s : Seat) → size ≡ bulk fan h → w ≡ fan ^ h → Sits s (locate fan h (p % size))
+    → Sits (record { height = s .height; first = j + p / size * w + s .first }) (inRow fan h j p)
+unfolding inRow
+sits-row fan h j p size w s whole wide sits =
+    let at : Sits s (locate fan h (p % bulk fan h)) = rw whole at sits in
+    record { height = at .height; first = rw (whole, wide, at .first) refl }
+
+-- where a new block of the right edge stands: none, below, or beside the last child
+pub edge-none : (fan h n p : ℕ) → h ≡ 0 → Sits (record { height = 0; first = 0 }) (seat fan h n p)
+unfolding seat
+edge-none fan h n p is = rw is (record { height = refl; first = refl })
+
+pub edge-below : (fan h n p b : ℕ) (s : Seat) → (h ≡ 0 → ⊥) → b ≡ space fan (h - 1) n → p < b
+    → Sits s (seat fan (h - 1) n p) → Sits s (seat fan h n p)
+edge-below fan zero n p b s tall all less sits = absurd (tall refl)
+edge-below fan (suc h) n p b s tall all less sits =
+    let z : suc h - 1 ≡ h = omega arith in
+    let at : Sits s (seat fan h n p) = rw z at sits in
+    let few : p < space fan h n = rw (all, z) at less in
+    rw (seat-below fan h n p few) at
+
+pub edge-beside : (fan h n p b j : ℕ) (s : Seat) → (h ≡ 0 → ⊥) → b ≡ space fan (h - 1) n → b ≤ p → j ≡ room fan (h - 1) n
+    → Sits s (inRow fan (h - 1) j (p - b)) → Sits s (seat fan h n p)
+edge-beside fan zero n p b j s tall all more here sits = absurd (tall refl)
+edge-beside fan (suc h) n p b j s tall all more here sits =
+    let z : suc h - 1 ≡ h = omega arith in
+    let many : space fan (suc h - 1) n ≤ p = omega arith in
+    let at : Sits s (inRow fan (suc h - 1) (room fan (suc h - 1) n) (p - space fan (suc h - 1) n)) = rw (all, here) at sits in
+    let at′ : Sits s (inRow fan h (room fan h n) (p - space fan h n)) = rw z at at in
+    rw (seat-beside fan h n p (rw z at many)) at′

@@ -1,0 +1,3 @@
+// What each slot becomes in a write, and how it is stored.
+pub mod patch;
+pub mod stretch;

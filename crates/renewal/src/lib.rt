@@ -1,1 +1,0 @@
-// What a resize makes of a block that stays: pure laws.

@@ -1,1 +1,0 @@
-// Pure laws of resize and write, in proofs/: no code stands here.

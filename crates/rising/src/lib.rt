@@ -1,1 +1,0 @@
-// Pure laws of a resize as code computes it, in proofs/: no code stands here.

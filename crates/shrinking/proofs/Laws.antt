@@ -1,9 +1,0 @@
--- The leaves that a blob is cut to are few enough to draw a block of it.
-use Prim.Native.Nat.{_^_, _≤_}
-use native.Mathlib.Omega.{arith}
-use Rattle.meaning.specs.declared.Edition.{Edition}
-use Rattle.cuts.specs.declared.Cut.{Cut}
-use Rattle.cuts.specs.Cuts.{Cuts}
-
-pub cuts-few : (e : Edition) (c : Cut) → Cuts e c → c .leaves ≤ 2 ^ 50
-cuts-few e c q = omega (arith, q .few)

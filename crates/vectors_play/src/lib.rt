@@ -1,0 +1,4 @@
+// Each call of a script, run once and printed.
+pub mod changes;
+pub mod reads;
+pub mod steps;
