@@ -16,14 +16,14 @@ use Rattle.meaning.specs.Lists.{pick}
 use Rattle.meaning.specs.Change.{Change}
 use Rattle.laws.proofs.Inversions.{by-test}
 use Rattle.laws_resize.specs.growth.Slots.{usableBelow}
-use Rattle.check_blob.proofs.visit.Laws.{slot-fits}
+use Rattle.check_blob.proofs.visit.VisitAsDefined.{slot-fits}
 use Rattle.check_gate.specs.Gate.{Whole}
 use Rattle.check_survey.specs.sites.Known.{Known}
 use Rattle.plan_slot.specs.change.Turns.{over}
-use Rattle.plan_slot.proofs.change.Laws.{over-none, over-step}
+use Rattle.plan_slot.proofs.change.SlotLoop.{over-none, over-step}
 use Rattle.plan_slot.specs.declared.turn.Turn.{Turn}
 use Rattle.plan_slot.specs.turn.{turned, turns}
-use Rattle.plan_slot.proofs.turn.Laws.{turns-length}
+use Rattle.plan_slot.proofs.turn.TurnByCases.{turns-length}
 use Rattle.plan_longer.specs.declared.fresh.Growth.{Growth}
 use Rattle.plan_longer.specs.declared.towers.Tower.{Tower}
 use Rattle.plan_longer.specs.Plans.{Here, AllHere, growPlan, growPlans}
@@ -31,7 +31,7 @@ use Rattle.plan_tree.specs.declared.cuts.Cut.{Cut}
 use Rattle.plan_shorter.specs.Plans as cut
 use Rattle.plan_write.specs.declared.stretch.Stretch.{Stretch}
 use Rattle.plan_write.specs.stretch.{planOf, putBy, writePlan, Place, Counted}
-use Rattle.plan_write.proofs.laws.Facts.{counted-known}
+use Rattle.plan_write.proofs.rewriting.Facts.{counted-known}
 use Rattle.call_delete.specs.free.{clearPlan}
 use Rattle.call_count.specs.Plannable.{Plannable}
 

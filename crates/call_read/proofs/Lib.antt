@@ -1,2 +1,2 @@
 pub mod Spelt
-pub mod Laws
+pub mod ReadAnswered

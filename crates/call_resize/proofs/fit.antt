@@ -1,3 +1,3 @@
-pub mod Laws
+pub mod MoreLeaves
 pub mod Shorter
 pub mod Longer

@@ -11,7 +11,7 @@ ghost use Rattle.meaning.specs.Answers.{changeAnswer, Ends};
 ghost use Rattle.check_gate.specs.Gate.{Whole};
 ghost use Rattle.plan_slot.specs.change.Turns.{over};
 ghost use Rattle.plan_write.specs.stretch.{writePlan};
-ghost use Rattle.plan_write.specs.laws.{Unworn};
+ghost use Rattle.plan_write.specs.rewriting.{Unworn};
 ghost use Rattle.call_write.specs.put.{Leaves, writeNoted};
 
 // Every slot that changes is stored, rising.

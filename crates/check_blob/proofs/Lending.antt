@@ -9,7 +9,7 @@ use Rattle.meaning.specs.declared.Edition.{Edition}
 use Rattle.check_gate.specs.declared.Opened.{Opened}
 use Rattle.check_gate.specs.declared.Opened.the-variants.{Slots}
 use Rattle.check_gate.specs.Gate.{gate}
-use Rattle.check_gate.proofs.Laws.{gate-whole}
+use Rattle.check_gate.proofs.BehindTheGate.{gate-whole}
 
 -- the front of a row of zeros
 zeros-front : (m n : ℕ) → n ≤ m → take n (replicate {A = ℕ} m 0) ≡ replicate n 0

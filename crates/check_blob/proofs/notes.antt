@@ -1,4 +1,4 @@
-pub mod Laws
+pub mod WalkAsDefined
 pub mod Bounds
 pub mod Putting
 pub mod Answering

@@ -1,4 +1,4 @@
-pub mod Laws
+pub mod NotedAsTheyStand
 pub mod Bounds
 pub mod Walks
 pub mod Rows

@@ -1,2 +1,2 @@
-pub mod Slots
-pub mod Laws
+pub mod WornSoFar
+pub mod WornByHeights

@@ -17,7 +17,7 @@ use Rattle.meaning.specs.Refusals.{at}
 use Rattle.meaning.specs.Walk.{fine, blobCheck}
 use Rattle.meaning.specs.Calls.{Outcome, refused, refuseIf, afterCheck, slotsIn, refuseBadRecord, opened, rooted, reading}
 use Rattle.laws.proofs.Inversions.{by-test, same-list}
-use Rattle.laws_history.proofs.Slots.{Each, each-right, range-each}
+use Rattle.laws_history.proofs.WalkOrder.{Each, each-right, range-each}
 use Rattle.laws_history.proofs.Local.{unlike, Same, otherFlaw, Told, firstOther, other-none, other-first, other-number, check-other}
 use Rattle.laws_history.proofs.CallSteps.{slots-in}
 use Rattle.laws_history.proofs.Started.{Sized, so-sized, other-sized}

@@ -27,7 +27,7 @@ use Rattle.meaning.specs.Calls.{lengthCall, readCall, showCall, auditCall, crea
 use Rattle.meaning.specs.Run as run
 use Rattle.meaning.specs.Run.{Call, perform}
 use Rattle.laws.proofs.Inversions.{by-test, both-true}
-use Rattle.laws_history.proofs.Slots.{Each, each-map}
+use Rattle.laws_history.proofs.WalkOrder.{Each, each-map}
 use Rattle.laws_history.proofs.Reached.{Live, pool-reach}
 use Rattle.laws_history.proofs.Stepped.{same, Next, Settled, Ready, turned-next, turned-settled}
 use Rattle.laws_history.proofs.Taken.{picked, held-slot, refilled-taken, resized-taken, lowest-taken}

@@ -27,7 +27,7 @@ use Rattle.meaning.specs.Calls.{lengthCall, readCall, showCall, auditCall}
 use Rattle.meaning.specs.Answers.{shownPart}
 use Rattle.meaning.specs.Run.{Call, run}
 use Rattle.laws.proofs.Inversions.{by-test}
-use Rattle.laws_history.proofs.Slots.{Each}
+use Rattle.laws_history.proofs.WalkOrder.{Each}
 use Rattle.laws_history.proofs.Local.{Same, Told}
 use Rattle.laws_history.proofs.Reached.{Live, from-reach}
 use Rattle.laws_history.proofs.Fewer.{pool-found}

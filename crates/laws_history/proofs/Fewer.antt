@@ -21,7 +21,7 @@ use Rattle.laws.proofs.Inversions.{never, by-test, Sound, sound-passed, passed-
 use Rattle.laws.proofs.Walked.{leaf-found, inner-found, none-found, row-found, root-found}
 use Rattle.laws.proofs.Marks.{walk-marks}
 use Rattle.laws.proofs.Roots.{roots-root, roots-other}
-use Rattle.laws_history.proofs.Slots.{Each, each-range}
+use Rattle.laws_history.proofs.WalkOrder.{Each, each-range}
 
 -- fewer flags no slot that more does not
 pub record Fewer (fewer more : List ℕ) : Type 0 where

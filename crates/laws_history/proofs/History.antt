@@ -18,7 +18,7 @@ use Rattle.meaning.specs.Run.{Call, perform, moments}
 use Rattle.laws.proofs.Codec.{blank-flaw, state-of, recorded-of}
 use Rattle.laws.proofs.Inversions.{by-test}
 use Rattle.laws.proofs.Walked.{mem-at}
-use Rattle.laws_history.proofs.Slots.{Each, each-mem}
+use Rattle.laws_history.proofs.WalkOrder.{Each, each-mem}
 use Rattle.laws_history.proofs.Stepped.{Risen, Stepped, same, risen, gone, Settled, state-same, recorded-same}
 use Rattle.laws_history.proofs.CallSteps.{call-steps}
 use Rattle.laws_history.proofs.Carried.{Carries, encoded-carries, moved-flaw, older-flaw, newer-flaw}

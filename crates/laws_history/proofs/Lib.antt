@@ -1,5 +1,5 @@
 -- Laws of runs of calls: what a walk sees of another pool, what a call makes of each slot, and what a reader can be shown.
-pub mod Slots
+pub mod WalkOrder
 pub mod Local
 pub mod Reached
 pub mod Fewer

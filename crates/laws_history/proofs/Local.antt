@@ -20,7 +20,7 @@ use Rattle.laws.proofs.Checks.{check-flaw}
 use Rattle.laws.proofs.Inversions.{Sound, never, by-test, same-list, same-self, passed-passing, sound-passed, flaw-number}
 use Rattle.laws.proofs.Walked.{leaf-found, inner-found, none-found, row-found, root-found}
 use Rattle.laws.proofs.Roots.{visit-slot}
-use Rattle.laws_history.proofs.Slots.{Each, each-left, each-right, each-map, slots, slots-own, blob-slots}
+use Rattle.laws_history.proofs.WalkOrder.{Each, each-left, each-right, each-map, slots, slots-own, blob-slots}
 
 -- lists that are found different are
 pub unlike : (a b : List ℕ) → sameList a b ≡ false → a ≡ b → ⊥

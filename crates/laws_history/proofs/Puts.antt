@@ -17,7 +17,7 @@ use Rattle.meaning.specs.Change.{Change, puts, freed, renewed, changed, changes
 use Rattle.laws.proofs.Puts.{put-same, put-length, put-other, puts-append}
 use Rattle.laws.proofs.Codec.{encoded-length, record-length}
 use Rattle.laws.proofs.Inversions.{by-test}
-use Rattle.laws_history.proofs.Slots.{Each}
+use Rattle.laws_history.proofs.WalkOrder.{Each}
 
 -- what at most one change makes of a slot's bytes
 unfoldable pub settled : (Change → List ℕ) → List Change → List ℕ → List ℕ

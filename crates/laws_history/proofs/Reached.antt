@@ -21,7 +21,7 @@ use Rattle.meaning.specs.Walk.{flaw, isRoot, linkCheck, fine, isEmpty, row, vis
 use Rattle.laws.proofs.Inversions.{never, by-test, no-flaw, Sound, passed-linked, must-passed, first-passed, andThen-fine, passing-fine, fine-same}
 use Rattle.laws.proofs.Walked.{leaf-found, inner-found, none-found, row-found, root-found}
 use Rattle.laws.proofs.Roots.{visit-slot, roots-root, roots-other}
-use Rattle.laws_history.proofs.Slots.{Each, each-both, each-range, range-each, slots, slots-own, blob-slots}
+use Rattle.laws_history.proofs.WalkOrder.{Each, each-both, each-range, range-each, slots, slots-own, blob-slots}
 
 -- Q holds of every slot that is flagged
 abbrev pub Flagged : (ℕ → Type 0) → List ℕ → Type 0

@@ -18,7 +18,7 @@ use Rattle.meaning.specs.Answers.{shownPart}
 use Rattle.laws.proofs.Numbers.{part-part}
 use Rattle.laws.proofs.Inversions.{by-test}
 use Rattle.laws.proofs.Walked.{mem-at, walk-here}
-use Rattle.laws_history.proofs.Slots.{Each, each-left, each-right, each-both, each-mem, slots, blob-slots}
+use Rattle.laws_history.proofs.WalkOrder.{Each, each-left, each-right, each-both, each-mem, slots, blob-slots}
 use Rattle.laws_history.proofs.Local.{Same}
 
 -- what holds of each slot of a row's trees holds of each leaf's

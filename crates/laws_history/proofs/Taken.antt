@@ -16,7 +16,7 @@ use Rattle.meaning.specs.Tree.{Tree, Blob, slotOf, atSlot, leavesOf, lengthOf, 
 use Rattle.meaning.specs.Resize.{lowest, chain, onLast, roomy, hang, raised, addLeaf, addLeaves, lastLeaf, longer}
 use Rattle.meaning.specs.Resize.{keepRow, keep, lower, shorter, resized, along, refill, refilled}
 use Rattle.laws.proofs.Inversions.{by-test}
-use Rattle.laws_history.proofs.Slots.{Each, each-left, each-right, each-both, slots, blob-slots}
+use Rattle.laws_history.proofs.WalkOrder.{Each, each-left, each-right, each-both, slots, blob-slots}
 
 -- what holds either way holds of the choice
 pub picked : {A : Type 0} (Z : A → Type 0) (t : Bool) (x y : A) → Z x → Z y → Z (pick t x y)

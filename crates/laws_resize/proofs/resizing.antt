@@ -1,6 +1,6 @@
 -- Laws of resize and write, on blobs.
 pub mod Ends
-pub mod Slots
+pub mod SlotCounts
 pub mod Last
 pub mod Hanging
 pub mod Longer

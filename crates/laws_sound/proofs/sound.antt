@@ -1,5 +1,5 @@
 -- Laws of the walk and of the pool check, both ways, and of the slots after a call's changes.
-pub mod Slots
+pub mod TimesListed
 pub mod Cells
 pub mod Walks
 pub mod Blobs

@@ -25,12 +25,12 @@ use Rattle.laws_resize.specs.growth.Slots.{taken}
 use Rattle.laws_resize.proofs.growth.Places.{root-site}
 use Rattle.laws_resize.proofs.rising.Bounds.{want-some, want-total, power-within}
 use Rattle.laws_resize.proofs.rising.Leaves.{leaf-share, root-most, root-share}
-use Rattle.check_blob.proofs.visit.Laws.{slot-fits}
+use Rattle.check_blob.proofs.visit.VisitAsDefined.{slot-fits}
 use Rattle.check_gate.specs.Gate.{Whole}
 use Rattle.check_survey.specs.sites.Spelt.{blobAt, siteAt}
 use Rattle.check_survey.specs.sites.Known.{Known}
 use Rattle.check_survey.specs.worn.{wornAmong}
-use Rattle.check_survey.proofs.worn.Laws.{unworn-slot, unworn-site}
+use Rattle.check_survey.proofs.worn.WornByHeights.{unworn-slot, unworn-site}
 use Rattle.plan_longer.specs.declared.fresh.Growth.{Growth}
 use Rattle.plan_longer.specs.fresh.{Grows}
 use Rattle.plan_longer.specs.declared.towers.Tower.{Tower}

@@ -32,9 +32,9 @@ use Rattle.check_gate.specs.Gate.{Whole}
 use Rattle.check_survey.specs.sites.Spelt.{blobAt, siteAt}
 use Rattle.check_survey.specs.sites.Known.{Known}
 use Rattle.plan_slot.specs.change.Turns.{over}
-use Rattle.plan_slot.proofs.change.Laws.{changes-over, over-same}
+use Rattle.plan_slot.proofs.change.SlotLoop.{changes-over, over-same}
 use Rattle.plan_slot.specs.renewal.{renewal}
-use Rattle.plan_slot.proofs.renewal.Laws.{renewal-same}
+use Rattle.plan_slot.proofs.renewal.DrawnIsChanged.{renewal-same}
 use Rattle.plan_longer.specs.declared.fresh.Growth.{Growth}
 use Rattle.plan_longer.specs.declared.towers.Tower.{Tower}
 use Rattle.plan_longer.specs.enlarged.{rootEnd, oldEnd}

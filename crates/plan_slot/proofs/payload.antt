@@ -1,4 +1,4 @@
 pub mod Rows
-pub mod Slots
+pub mod SlotsPutIn
 pub mod Copies
 pub mod Cells

@@ -1,2 +1,2 @@
 -- Laws: the right edge one height lower, and bounds on it.
-pub mod Laws
+pub mod EdgeFromBelow

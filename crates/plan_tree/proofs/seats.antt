@@ -1,2 +1,2 @@
 -- Laws: seats one height lower, and bounds on them.
-pub mod Laws
+pub mod SeatsFromBelow

@@ -1,2 +1,2 @@
 -- Laws: full subtrees one height lower, and bounds on them.
-pub mod Laws
+pub mod SubtreesFromBelow

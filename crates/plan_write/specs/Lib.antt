@@ -1,2 +1,2 @@
-pub mod laws
+pub mod rewriting
 pub mod stretch

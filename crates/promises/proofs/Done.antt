@@ -25,10 +25,10 @@ use Rattle.meaning.specs.Run.{create, write, resize, delete, says, perform}
 use Rattle.laws.proofs.Inversions.{by-test, true-both, same-self, never}
 use Rattle.laws.proofs.Codec.{state-of, recorded-of}
 use Rattle.laws.proofs.Roots.{in-range, in-filter}
-use Rattle.laws_resize.proofs.resizing.Slots.{times, member-times, times-member}
+use Rattle.laws_resize.proofs.resizing.SlotCounts.{times, member-times, times-member}
 use Rattle.laws_resize.proofs.resizing.Resized.{resized-taken, resized-from}
 use Rattle.laws_sound.proofs.sound.Cells.{cellSlots}
-use Rattle.laws_sound.proofs.sound.Slots.{by-times, times-none}
+use Rattle.laws_sound.proofs.sound.TimesListed.{by-times, times-none}
 use Rattle.laws_sound.proofs.sound.Blobs.{Lies, lies-within}
 use Rattle.laws_sound.proofs.sound.Pools.{pool-one}
 use Rattle.laws_sound.proofs.sound.Puts.{made, then-pool, then-block, then-record}

@@ -22,8 +22,8 @@ use Rattle.meaning.specs.Answers.{yields, refuses, shownPart}
 use Rattle.meaning.specs.Run.{length, read, showLeaf, saidBy, says}
 use Rattle.laws.proofs.Numbers.{part-part}
 use Rattle.laws.proofs.Walked.{mem-at, walk-here, LeafHere}
-use Rattle.laws_resize.proofs.resizing.Slots.{times-cons}
-use Rattle.laws_sound.proofs.sound.Slots.{marked, times-same}
+use Rattle.laws_resize.proofs.resizing.SlotCounts.{times-cons}
+use Rattle.laws_sound.proofs.sound.TimesListed.{marked, times-same}
 use Rattle.laws_sound.proofs.sound.Cells.{Every}
 use Rattle.laws_sound.proofs.sound.Blobs.{Lies, lies-within}
 use Rattle.laws_sound.proofs.sound.Pools.{Pool, pool-found, pool-passes, slots-root}

@@ -16,12 +16,12 @@ use Rattle.meaning.specs.Change.{Store}
 use Rattle.meaning.specs.Calls.{Outcome, refused, done, slotsIn, sized, auditCall}
 use Rattle.meaning.specs.Answers.{yields, refuses, shownPart}
 use Rattle.meaning.specs.Run.{Call, audit, length, read, showLeaf, saidBy, says, run}
-use Rattle.laws_history.proofs.Slots.{Each, each-mem}
+use Rattle.laws_history.proofs.WalkOrder.{Each, each-mem}
 use Rattle.laws_history.proofs.Local.{Same}
 use Rattle.laws_history.proofs.Started.{blank, held, FromRun, run-slots}
 use Rattle.laws_history.proofs.Answered.{Exact, FirstOther, each-or-first}
 use Rattle.laws_history.proofs.Demand.{Answers, reading-demand, audit-demand}
-use Rattle.laws_sound.proofs.sound.Slots.{marked}
+use Rattle.laws_sound.proofs.sound.TimesListed.{marked}
 use Rattle.laws_sound.proofs.sound.Pools.{allSlots}
 use Rattle.laws_sound.proofs.again.Done.{Good}
 use Rattle.laws_sound.proofs.again.Runs.{run-good, good-passes}

@@ -22,7 +22,7 @@ use Rattle.laws.proofs.Codec.{padded-length}
 use Rattle.laws.proofs.Heights.{height-enough, height-least}
 use Rattle.laws.proofs.Shapes.{shaped-leaves, shaped-height, shaped-slots, bare, blank, outline, one-shape}
 use Rattle.laws.proofs.Walked.{walk-shaped}
-use Rattle.laws_resize.proofs.resizing.Slots.{slots-for}
+use Rattle.laws_resize.proofs.resizing.SlotCounts.{slots-for}
 use Rattle.laws_resize.proofs.resizing.Resized.{none-new}
 use Rattle.laws_sound.proofs.again.Outcomes.{sized-lengths}
 use Rattle.laws_sound.proofs.again.Done.{Good}

@@ -1,7 +1,7 @@
 -- Refusals 1 and 2 handed on, or the audit behind them.
-use Rattle.check_gate.proofs.Laws.{gate-whole}
+use Rattle.check_gate.proofs.BehindTheGate.{gate-whole}
 use Rattle.check_blob.proofs.Lending.{flags-reach, flags-lent}
-use Rattle.call_audit.proofs.Laws.{audit-barred, audit-behind}
+use Rattle.call_audit.proofs.LiveCounted.{audit-barred, audit-behind}
 use borrow.Author.Needs.{needs}
 use Rattle.call_audit.proofs.audit_call.Statement.{statement}
 use Rattle.call_audit.proofs.audit_call.Tie as tie

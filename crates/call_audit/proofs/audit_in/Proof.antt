@@ -1,6 +1,6 @@
 -- The pool check's fault, or the count.
 use Rattle.check_blob.proofs.Opening.{whole-sized}
-use Rattle.call_audit.proofs.Laws.{audit-fault, audit-live}
+use Rattle.call_audit.proofs.LiveCounted.{audit-fault, audit-live}
 use borrow.Author.Needs.{needs}
 use Rattle.call_audit.proofs.audit_in.Statement.{statement}
 use Rattle.call_audit.proofs.audit_in.Tie as tie

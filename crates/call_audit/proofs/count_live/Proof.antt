@@ -3,7 +3,7 @@ use borrow.Author.Needs.{needs}
 use mathlib.Core.Path.{_≡_}
 use Prim.Native.Nat.{_+_, _-_, _≤_}
 use Rattle.call_audit.specs.Counting.{liveFrom}
-use Rattle.call_audit.proofs.Laws.{live-start, live-more, live-end}
+use Rattle.call_audit.proofs.LiveCounted.{live-start, live-more, live-end}
 use Rattle.call_audit.proofs.count_live.Statement.{statement}
 use Rattle.call_audit.proofs.count_live.Tie as tie
 

@@ -1,6 +1,6 @@
 -- By the record's state.
 use native.Mathlib.Omega.{arith}
-use Rattle.call_audit.proofs.Laws.{live-none, live-one}
+use Rattle.call_audit.proofs.LiveCounted.{live-none, live-one}
 use borrow.Author.Needs.{needs}
 use Rattle.call_audit.proofs.live_at.Statement.{statement}
 use Rattle.call_audit.proofs.live_at.Tie as tie

@@ -1,6 +1,6 @@
 -- Refusals 1 and 2 with nothing changed, or what is behind them.
 use Rattle.check_blob.proofs.Lending.{flags-reach, flags-lent}
-use Rattle.call_create.proofs.Laws.{create-barred, create-whole, create-opened}
+use Rattle.call_create.proofs.BehindThePoolCheck.{create-barred, create-whole, create-opened}
 use borrow.Author.Needs.{needs}
 use Rattle.call_create.proofs.create_call.Statement.{statement}
 use Rattle.call_create.proofs.create_call.Tie as tie

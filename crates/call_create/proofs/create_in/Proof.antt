@@ -1,6 +1,6 @@
 -- The pool check's fault, or what is behind it.
 use Rattle.check_blob.proofs.Opening.{whole-sized}
-use Rattle.call_create.proofs.Laws.{create-fault, create-behind}
+use Rattle.call_create.proofs.BehindThePoolCheck.{create-fault, create-behind}
 use borrow.Author.Needs.{needs}
 use Rattle.call_create.proofs.create_in.Statement.{statement}
 use Rattle.call_create.proofs.create_in.Tie as tie

@@ -1,6 +1,6 @@
 -- The refusal with nothing changed, or every block of the blob gone.
-use Rattle.check_survey.proofs.Laws.{noted-heights}
-use Rattle.call_delete.proofs.Laws.{delete-refused, delete-whole, delete-heights, delete-done}
+use Rattle.check_survey.proofs.BehindTheSurvey.{noted-heights}
+use Rattle.call_delete.proofs.NotedSlotsGo.{delete-refused, delete-whole, delete-heights, delete-done}
 use borrow.Author.Needs.{needs}
 use Rattle.call_delete.proofs.delete_call.Statement.{statement}
 use Rattle.call_delete.proofs.delete_call.Tie as tie

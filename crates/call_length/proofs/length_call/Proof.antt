@@ -1,7 +1,7 @@
 -- Refusals 1 and 2 handed on, or the length behind them.
-use Rattle.check_gate.proofs.Laws.{gate-whole}
+use Rattle.check_gate.proofs.BehindTheGate.{gate-whole}
 use Rattle.check_blob.proofs.Lending.{flags-reach, flags-lent, row-reaches}
-use Rattle.call_length.proofs.Laws.{length-barred, length-behind}
+use Rattle.call_length.proofs.LengthAnswered.{length-barred, length-behind}
 use borrow.Author.Needs.{needs}
 use Rattle.call_length.proofs.length_call.Statement.{statement}
 use Rattle.call_length.proofs.length_call.Tie as tie

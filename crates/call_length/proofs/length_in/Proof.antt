@@ -1,5 +1,5 @@
 -- The refusal handed on, or the bytes.
-use Rattle.call_length.proofs.Laws.{length-refused, length-found}
+use Rattle.call_length.proofs.LengthAnswered.{length-refused, length-found}
 use borrow.Author.Needs.{needs}
 use Rattle.call_length.proofs.length_in.Statement.{statement}
 use Rattle.call_length.proofs.length_in.Tie as tie

@@ -16,7 +16,7 @@ use Rattle.meaning.specs.declared.Edition.{Edition}
 use Rattle.laws.proofs.Numbers.{part-split, part-length}
 use Rattle.laws.proofs.Parts.{copy-back, lent-length}
 use Rattle.laws.proofs.Building.{take-pasted-to}
-use Rattle.check_blob.proofs.visit.Laws.{slot-fits}
+use Rattle.check_blob.proofs.visit.VisitAsDefined.{slot-fits}
 use Rattle.call_read.specs.copy.{spelt, Stretch, Reading}
 
 -- a place within its payload

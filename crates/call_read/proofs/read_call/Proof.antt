@@ -1,7 +1,7 @@
 -- Refusals 1 and 2 handed on with the output untouched, or the read behind them.
-use Rattle.check_gate.proofs.Laws.{gate-whole}
+use Rattle.check_gate.proofs.BehindTheGate.{gate-whole}
 use Rattle.check_blob.proofs.Lending.{flags-reach, flags-lent, row-reaches, row-lent}
-use Rattle.call_read.proofs.Laws.{read-barred, read-behind}
+use Rattle.call_read.proofs.ReadAnswered.{read-barred, read-behind}
 use borrow.Author.Needs.{needs}
 use Rattle.call_read.proofs.read_call.Statement.{statement}
 use Rattle.call_read.proofs.read_call.Tie as tie

@@ -1,5 +1,5 @@
 -- Refusal 10, or the copy.
-use Rattle.call_read.proofs.Laws.{read-before, read-past, read-within, reading-starts}
+use Rattle.call_read.proofs.ReadAnswered.{read-before, read-past, read-within, reading-starts}
 use borrow.Author.Needs.{needs}
 use Rattle.call_read.proofs.read_found.Statement.{statement}
 use Rattle.call_read.proofs.read_found.Tie as tie

@@ -1,6 +1,6 @@
 -- The refusal handed on, or the read of what the row spells.
 use Rattle.check_blob.proofs.Rows.{found-length}
-use Rattle.call_read.proofs.Laws.{read-refused, found-bytes, found-readable, read-found}
+use Rattle.call_read.proofs.ReadAnswered.{read-refused, found-bytes, found-readable, read-found}
 use borrow.Author.Needs.{needs}
 use Rattle.call_read.proofs.read_in.Statement.{statement}
 use Rattle.call_read.proofs.read_in.Tie as tie

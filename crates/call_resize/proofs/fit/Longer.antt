@@ -16,9 +16,9 @@ use Rattle.laws_resize.specs.growth.Cuts.{heightOfLength}
 use Rattle.laws_resize.specs.growth.Slots.{taken}
 use Rattle.laws_resize.proofs.rising.Bounds.{longer-leaves}
 use Rattle.check_gate.specs.Gate.{Whole}
-use Rattle.check_blob.proofs.visit.Laws.{slot-fits}
+use Rattle.check_blob.proofs.visit.VisitAsDefined.{slot-fits}
 use Rattle.plan_slot.specs.change.Turns.{over}
-use Rattle.base_slot.proofs.usable.Laws.{usable-all}
+use Rattle.base_slot.proofs.usable.UsableInOrder.{usable-all}
 use Rattle.plan_longer.specs.declared.fresh.Growth.{Growth}
 use Rattle.plan_longer.specs.fresh.{Grows}
 use Rattle.plan_longer.specs.declared.towers.Tower.{Tower}

@@ -14,11 +14,11 @@ use Rattle.meaning.specs.Change.{puts}
 use Rattle.meaning.specs.Resize.{resized}
 use Rattle.meaning.specs.Calls.{usable, become}
 use Rattle.laws_resize.specs.growth.Cuts.{heightOfLength}
-use Rattle.check_blob.proofs.visit.Laws.{slot-fits}
+use Rattle.check_blob.proofs.visit.VisitAsDefined.{slot-fits}
 use Rattle.check_survey.specs.sites.Spelt.{blobAt}
 use Rattle.call_resize.specs.shorter.{CutStart}
 use Rattle.call_resize.specs.fit.Found.{resizedTo, Shorter}
-use Rattle.base_shape.proofs.vacancy.Laws.{leaves-totalled}
+use Rattle.base_shape.proofs.vacancy.RoomInSums.{leaves-totalled}
 
 module _ (e : Edition) (n : ℕ) (P R : List ℕ) (r : ℕ) (hs fs : List ℕ) (len want : ℕ) (o : Shorter e n P R r hs fs len want) where
   -- the root lies in the pool

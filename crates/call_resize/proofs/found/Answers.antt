@@ -22,11 +22,11 @@ use Rattle.check_gate.specs.Gate.{Whole}
 use Rattle.check_survey.specs.sites.Spelt.{blobAt}
 use Rattle.check_survey.proofs.sites.Knowing.{known-changing}
 use Rattle.base_slot.specs.usable.{usableFrom}
-use Rattle.base_slot.proofs.usable.Laws.{usable-all}
+use Rattle.base_slot.proofs.usable.UsableInOrder.{usable-all}
 use Rattle.check_survey.specs.worn.{wornAmong}
-use Rattle.check_survey.proofs.worn.Laws.{worn-refused, worn-passed}
+use Rattle.check_survey.proofs.worn.WornByHeights.{worn-refused, worn-passed}
 use Rattle.check_survey.specs.refusal.{resizeBarred}
-use Rattle.check_survey.proofs.refusal.Laws.{lacking, resize-worn, resize-full, resize-none, resize-fresh, resize-room}
+use Rattle.check_survey.proofs.refusal.NumberByTests.{lacking, resize-worn, resize-full, resize-none, resize-fresh, resize-room}
 use Rattle.call_resize.specs.fit.Found.{Found, Roomy, resizedTo}
 
 -- the blob of root r, found

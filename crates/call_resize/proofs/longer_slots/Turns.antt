@@ -13,11 +13,11 @@ use Rattle.meaning.specs.Lists.{pick, range, filter}
 use Rattle.meaning.specs.Bytes.{state, recorded, usableSlot}
 use Rattle.meaning.specs.Change.{Change, puts, renewed}
 use Rattle.laws_resize.specs.growth.Slots.{usableBelow}
-use Rattle.check_blob.proofs.visit.Laws.{slot-fits}
+use Rattle.check_blob.proofs.visit.VisitAsDefined.{slot-fits}
 use Rattle.check_gate.specs.Gate.{Whole}
 use Rattle.plan_slot.specs.change.Places.{Places}
 use Rattle.plan_slot.specs.change.Turns.{Turning}
-use Rattle.plan_slot.proofs.change.Laws.{block-left, record-left, turning-on}
+use Rattle.plan_slot.proofs.change.SlotLoop.{block-left, record-left, turning-on}
 use Rattle.plan_slot.specs.renewal.{renewal}
 use Rattle.plan_slot.proofs.renewal.Single.{Single, pick-single, renewed-single, renewal-single}
 use Rattle.plan_longer.specs.declared.fresh.Growth.{Growth}

@@ -1,6 +1,6 @@
 -- The refusal with nothing changed, or what is behind it.
-use Rattle.check_survey.proofs.Laws.{noted-row, noted-heights, noted-firsts}
-use Rattle.call_resize.proofs.Laws.{resize-refused, resize-whole, resize-found, resize-row, resize-ends}
+use Rattle.check_survey.proofs.BehindTheSurvey.{noted-row, noted-heights, noted-firsts}
+use Rattle.call_resize.proofs.ReachedDecides.{resize-refused, resize-whole, resize-found, resize-row, resize-ends}
 use borrow.Author.Needs.{needs}
 use Rattle.call_resize.proofs.resize_call.Statement.{statement}
 use Rattle.call_resize.proofs.resize_call.Tie as tie

@@ -10,14 +10,14 @@ use Rattle.meaning.specs.Edition.{Proper}
 use Rattle.meaning.specs.Bytes.{block, countOf, childrenOf}
 use Rattle.meaning.specs.Tree.{Blob}
 use Rattle.laws.proofs.Codec.{rowOf}
-use Rattle.check_blob.proofs.visit.Laws.{slot-fits}
+use Rattle.check_blob.proofs.visit.VisitAsDefined.{slot-fits}
 use Rattle.check_gate.specs.Gate.{Whole}
 use Rattle.laws_resize.specs.growth.Cuts.{leftmost}
 use Rattle.laws_resize.specs.growth.Forms.{past}
 use Rattle.laws_resize.proofs.growth.Places.{left-site, left-root, left-step}
 use Rattle.check_survey.specs.sites.Spelt.{blobAt}
 use Rattle.check_survey.specs.sites.Known.{Known}
-use Rattle.check_blob.proofs.notes.Laws.{fours-first}
+use Rattle.check_blob.proofs.notes.WalkAsDefined.{fours-first}
 use Rattle.plan_slot.specs.keep.{firstBelow}
 
 -- an inner block's first child

@@ -21,7 +21,7 @@ use Rattle.laws.proofs.Numbers.{part-length}
 use Rattle.laws.proofs.Heights.{height-least}
 use Rattle.laws.proofs.Shapes.{shaped-leaves, shaped-height}
 use Rattle.laws_resize.proofs.resizing.Cells.{cell-height}
-use Rattle.check_blob.proofs.visit.Laws.{slot-fits}
+use Rattle.check_blob.proofs.visit.VisitAsDefined.{slot-fits}
 use Rattle.check_gate.specs.Gate.{Whole}
 use Rattle.laws_resize.specs.growth.Sites.{Site, sitesOf, sited, at}
 use Rattle.laws_resize.specs.growth.Cuts.{heightOfLength, leftmost}
@@ -30,7 +30,7 @@ use Rattle.laws_resize.proofs.growth.Places.{left-site}
 use Rattle.laws_resize.proofs.rising.Bounds.{power-within, want-some, shorter-leaves, shorter-height}
 use Rattle.check_survey.specs.sites.Spelt.{blobAt, siteAt}
 use Rattle.check_survey.specs.sites.Known.{Known}
-use Rattle.check_survey.proofs.worn.Laws.{unworn-slot}
+use Rattle.check_survey.proofs.worn.WornByHeights.{unworn-slot}
 use Rattle.plan_slot.specs.change.Turns.{over}
 use Rattle.plan_tree.specs.declared.cuts.Cut.{Cut}
 use Rattle.plan_tree.specs.cuts.{Cuts}
@@ -38,7 +38,7 @@ use Rattle.plan_shorter.specs.Plans.{KeptBlock, Here, cutPlan}
 use Rattle.plan_slot.specs.keep.{firstBelow}
 use Rattle.call_resize.specs.shorter.{CutStart}
 use Rattle.call_resize.proofs.shorter.Left.{left-below, left-fits}
-use Rattle.plan_shorter.proofs.Slots.{cut-changes}
+use Rattle.plan_shorter.proofs.PlannedAsDefined.{cut-changes}
 
 -- what a list of blocks holds in a slot stands in the list
 held-listed : (cs : List (ℕ × Cell)) (s : ℕ) (x : Cell) → held cs s ≡ just x → List·Memᴰ (s, x) cs

@@ -9,13 +9,13 @@ use Rattle.meaning.specs.declared.Edition.{Edition}
 use Rattle.meaning.specs.Edition.{Proper}
 use Rattle.meaning.specs.Bytes.{block, state, recorded, recordAt, lastVersion}
 use Rattle.meaning.specs.Change.{Change, puts, freed, renewed}
-use Rattle.check_blob.proofs.visit.Laws.{slot-fits}
+use Rattle.check_blob.proofs.visit.VisitAsDefined.{slot-fits}
 use Rattle.check_gate.specs.Gate.{Whole}
 use Rattle.plan_slot.specs.declared.turn.Turn.{Turn}
 use Rattle.plan_slot.specs.turn.{turned, Rises}
 use Rattle.plan_slot.specs.change.Places.{Places}
 use Rattle.plan_slot.specs.change.Turns.{Turning}
-use Rattle.plan_slot.proofs.change.Laws.{block-left, record-left, turning-on}
+use Rattle.plan_slot.proofs.change.SlotLoop.{block-left, record-left, turning-on}
 use Rattle.plan_slot.specs.renewal.{renewal}
 use Rattle.plan_slot.proofs.renewal.Single.{Single, pick-single, freed-single, renewal-single}
 use Rattle.plan_tree.specs.declared.cuts.Cut.{Cut}

@@ -4,7 +4,7 @@ use mathlib.Core.Path.{_≡_}
 use Prim.Native.Nat.{_-_, _*_, _≤_}
 use lib.ListN.{length, take}
 use Rattle.meaning.specs.Calls.{freeRecords}
-use Rattle.call_wipe.proofs.Laws.{free-start, free-on, free-end}
+use Rattle.call_wipe.proofs.WipedSoFar.{free-start, free-on, free-end}
 use Rattle.call_wipe.proofs.free_all.Statement.{statement}
 use Rattle.call_wipe.proofs.free_all.Tie as tie
 

@@ -1,5 +1,5 @@
 -- The lengths decide; then everything is wiped.
-use Rattle.call_wipe.proofs.Laws.{wipe-lengths, wipe-records, wipe-done}
+use Rattle.call_wipe.proofs.WipedSoFar.{wipe-lengths, wipe-records, wipe-done}
 use borrow.Author.Needs.{needs}
 use Rattle.call_wipe.proofs.wipe_call.Statement.{statement}
 use Rattle.call_wipe.proofs.wipe_call.Tie as tie

@@ -1,6 +1,6 @@
 -- The refusal with nothing changed, or what is noted of the blob decides.
-use Rattle.check_survey.proofs.Laws.{reached-blob, noted-heights, noted-firsts}
-use Rattle.call_write.proofs.Laws.{write-refused, write-unworn, write-done}
+use Rattle.check_survey.proofs.BehindTheSurvey.{reached-blob, noted-heights, noted-firsts}
+use Rattle.call_write.proofs.ReachedDecides.{write-refused, write-unworn, write-done}
 use borrow.Author.Needs.{needs}
 use Rattle.call_write.proofs.write_call.Statement.{statement}
 use Rattle.call_write.proofs.write_call.Tie as tie

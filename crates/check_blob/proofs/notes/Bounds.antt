@@ -22,7 +22,7 @@ use Rattle.laws.proofs.Checks.{leaf-fits, inner-fits}
 use Rattle.laws.proofs.Inversions.{Visited, fine-visited, passed-sound, passed-linked}
 use Rattle.check_blob.specs.visit as visited
 use Rattle.check_blob.specs.visit.{Within}
-use Rattle.check_blob.proofs.visit.Laws.{linked-within, slot-fits}
+use Rattle.check_blob.proofs.visit.VisitAsDefined.{linked-within, slot-fits}
 use Rattle.check_blob.specs.declared.notes.Walked.{Walked}
 use Rattle.check_blob.specs.declared.notes.Walked.the-variants.{Fault, Fine}
 use Rattle.laws.proofs.Marks.{marks, marks-set, marks-kept, marks-some, marks-all}

@@ -1,10 +1,10 @@
 -- The loop's invariant: the gate over all slots is the gate over those that are left.
-use Rattle.check_gate.proofs.Laws.{records-start}
+use Rattle.check_gate.proofs.BehindTheGate.{records-start}
 use mathlib.Core.Path.{_≡_}
 use Prim.Native.Nat.{_-_}
 use borrow.Author.Needs.{needs}
 use Rattle.check_gate.specs.Gate.{recordsGate}
-use Rattle.check_gate.proofs.Laws.{records-end, records-bad, records-good}
+use Rattle.check_gate.proofs.BehindTheGate.{records-end, records-bad, records-good}
 use Rattle.check_gate.proofs.check_records.Statement.{statement}
 use Rattle.check_gate.proofs.check_records.Tie as tie
 

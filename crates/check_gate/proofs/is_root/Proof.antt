@@ -1,5 +1,5 @@
 -- Past the pool, or by the record's state.
-use Rattle.check_gate.proofs.Laws.{root-past, root-state}
+use Rattle.check_gate.proofs.BehindTheGate.{root-past, root-state}
 use borrow.Author.Needs.{needs}
 use Rattle.check_gate.proofs.is_root.Statement.{statement}
 use Rattle.check_gate.proofs.is_root.Tie as tie

@@ -1,5 +1,5 @@
 -- Each way out is a law of refusal 1.
-use Rattle.check_gate.proofs.Laws.{sized-not, sized-none, sized-many, sized-records}
+use Rattle.check_gate.proofs.BehindTheGate.{sized-not, sized-none, sized-many, sized-records}
 use borrow.Author.Needs.{needs}
 use Rattle.check_gate.proofs.is_sized.Statement.{statement}
 use Rattle.check_gate.proofs.is_sized.Tie as tie

@@ -1,5 +1,5 @@
 -- Refusal 1, then refusal 2.
-use Rattle.check_gate.proofs.Laws.{gate-lengths, gate-records, gate-length}
+use Rattle.check_gate.proofs.BehindTheGate.{gate-lengths, gate-records, gate-length}
 use borrow.Author.Needs.{needs}
 use Rattle.check_gate.proofs.open.Statement.{statement}
 use Rattle.check_gate.proofs.open.Tie as tie

@@ -1,5 +1,5 @@
 -- The roots, then the closing pass.
-use Rattle.check_pool.proofs.Laws.{pool-stop, pool-unclosed, pool-passed}
+use Rattle.check_pool.proofs.RootsThenClosing.{pool-stop, pool-unclosed, pool-passed}
 use borrow.Author.Needs.{needs}
 use Rattle.check_pool.proofs.check.Statement.{statement}
 use Rattle.check_pool.proofs.check.Tie as tie

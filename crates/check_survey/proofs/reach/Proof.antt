@@ -1,5 +1,5 @@
 -- Refusals 1 and 2, or what the survey says of the rows' first places.
-use Rattle.check_survey.proofs.Laws.{seen-reaches, places-reach, heights-reach, firsts-reach, reach-barred, reach-room, reach-fault, reach-blob}
+use Rattle.check_survey.proofs.BehindTheSurvey.{seen-reaches, places-reach, heights-reach, firsts-reach, reach-barred, reach-room, reach-fault, reach-blob}
 use borrow.Author.Needs.{needs}
 use Rattle.check_survey.proofs.reach.Statement.{statement}
 use Rattle.check_survey.proofs.reach.Tie as tie

@@ -11,12 +11,12 @@ use Rattle.meaning.specs.Lists.{part, number, fours}
 use Rattle.meaning.specs.Bytes.{block, heightOf, countOf, childrenOf}
 use Rattle.meaning.specs.Shape.{most}
 use Rattle.meaning.specs.Tree.{leavesOf}
-use Rattle.check_blob.proofs.visit.Laws.{slot-fits}
+use Rattle.check_blob.proofs.visit.VisitAsDefined.{slot-fits}
 use Rattle.laws_resize.specs.growth.Room.{Every}
 use Rattle.check_survey.specs.sites.Spelt.{Fit, blobAt, Inside, treeLeaves, rowLeaves}
 use Rattle.check_survey.specs.sites.Marks.{Ready, BlockStart, RowStart, SitesStart}
-use Rattle.check_blob.proofs.notes.Laws.{fours-first}
-use Rattle.check_survey.proofs.sites.Laws.{inner-leaves, row-leaves}
+use Rattle.check_blob.proofs.notes.WalkAsDefined.{fours-first}
+use Rattle.check_survey.proofs.sites.NotedAsTheyStand.{inner-leaves, row-leaves}
 
 -- a tree's own block fits
 pub inside-fit : (e : Edition) (P : List ℕ) (n h s : ℕ) → Inside e P n h s → Fit e n P h s

@@ -23,7 +23,7 @@ use Rattle.laws.proofs.Heights.{height-enough}
 use Rattle.laws.proofs.Positions.{leaf-some, leaf-at, length-by-last}
 use Rattle.laws_resize.proofs.resizing.Longer.{longer-shaped, longer-length}
 use Rattle.laws_resize.proofs.resizing.Last.{last-slot, last-slots}
-use Rattle.laws_resize.proofs.resizing.Slots.{slots}
+use Rattle.laws_resize.proofs.resizing.SlotCounts.{slots}
 use Rattle.laws_resize.specs.growth.Sites.{rootRow, sites, sitesOf, sited, heldBy, Once}
 use Rattle.laws_resize.specs.growth.Forms.{past, room, space, seat, newLeaves, newBytes, grown, topCell, grownRoot, grownNew}
 use Rattle.laws_resize.specs.growth.Place.{sizes}

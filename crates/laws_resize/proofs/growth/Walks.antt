@@ -21,7 +21,7 @@ use Rattle.laws.proofs.Inversions.{by-test, passed-linked}
 use Rattle.laws.proofs.Walked.{leaf-found, inner-found, none-found, row-found, root-found}
 use Rattle.laws.proofs.Marks.{visit-link}
 use Rattle.laws.proofs.Roots.{visit-slot, walk-root}
-use Rattle.laws_resize.proofs.resizing.Slots.{slots, slots-leaf, slots-inner, blob-slots, own-slots}
+use Rattle.laws_resize.proofs.resizing.SlotCounts.{slots, slots-leaf, slots-inner, blob-slots, own-slots}
 use Rattle.laws_resize.specs.growth.Sites.{Lacks, Once}
 use Rattle.laws_resize.specs.growth.Room.{Every}
 use Rattle.laws_resize.proofs.growth.Sites.{lacks-held}

@@ -17,7 +17,7 @@ use Rattle.meaning.specs.Tree.{Tree, Blob, slotOf, content, cells, contentOf, c
 use Rattle.meaning.specs.Shape.{most, InRow, ShapedTree, Shaped}
 use Rattle.laws.proofs.Checks.{used-fits}
 use Rattle.laws.proofs.Codec.{take-small, drop-small, row-length, encoded-small, cellOf, cell-read}
-use Rattle.laws_resize.proofs.resizing.Slots.{slots, slots-inner, own-slots, blob-slots}
+use Rattle.laws_resize.proofs.resizing.SlotCounts.{slots, slots-inner, own-slots, blob-slots}
 
 -- what is in lists joined is in one of them
 in-joined : {A B : Type 0} (f : A → List B) {b : B} (l : List A) → List·Memᴰ b (joined (map f l)) → (a : A) × List·Memᴰ a l × List·Memᴰ b (f a)

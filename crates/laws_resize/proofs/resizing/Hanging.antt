@@ -17,8 +17,8 @@ use Rattle.meaning.specs.Shape.{least, most, InRow, ShapedTree}
 use Rattle.meaning.specs.Resize.{lowest, chain, onLast, roomy, hang}
 use Rattle.laws.proofs.Shapes.{OfRow, row-counted}
 use Rattle.laws_resize.proofs.resizing.Ends.{by-last, length-snoc, joined-snoc, onLast-snoc, ofLast-snoc, row-snoc, row-apart, some-child}
-use Rattle.laws_resize.proofs.resizing.Slots.{slots, slots-leaf, slots-inner, row-size, row-times, times}
-use Rattle.laws_resize.proofs.resizing.Slots.{Grows}
+use Rattle.laws_resize.proofs.resizing.SlotCounts.{slots, slots-leaf, slots-inner, row-size, row-times, times}
+use Rattle.laws_resize.proofs.resizing.SlotCounts.{Grows}
 
 -- a tree in another slot has the same shape
 pub moved-shaped : (e : Edition) (h : ℕ) (root edge : Bool) (s : ℕ) (t : Tree h) → ShapedTree e h root edge t → ShapedTree e h root edge (atSlot h s t)

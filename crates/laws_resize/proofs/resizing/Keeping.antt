@@ -17,7 +17,7 @@ use Rattle.meaning.specs.Shape.{least, most, InRow, ShapedTree}
 use Rattle.meaning.specs.Resize.{keepRow, keep}
 use Rattle.laws.proofs.Shapes.{OfTree, tree-counted}
 use Rattle.laws_resize.proofs.resizing.Ends.{row-cons, some-child}
-use Rattle.laws_resize.proofs.resizing.Slots.{slots, slots-inner, times, times-append, times-cons}
+use Rattle.laws_resize.proofs.resizing.SlotCounts.{slots, slots-inner, times, times-append, times-cons}
 
 -- the front of two lists in a row
 take-append : {A : Type 0} (k : ℕ) (a b : List A) → take k (a ++ b) ≡ take k a ++ take (k - length a) b

@@ -12,7 +12,7 @@ use Rattle.meaning.specs.Tree.{Tree, Blob, slotOf, atSlot, content, rootOf, con
 use Rattle.meaning.specs.Shape.{least, most, InRow, ShapedTree, Shaped}
 use Rattle.meaning.specs.Resize.{lastLeaf, lower}
 use Rattle.laws_resize.proofs.resizing.Ends.{mapLast-length}
-use Rattle.laws_resize.proofs.resizing.Slots.{slots, slots-inner, below, own-slots, moved-slots, times, times-cons, blob-slots}
+use Rattle.laws_resize.proofs.resizing.SlotCounts.{slots, slots-inner, below, own-slots, moved-slots, times, times-cons, blob-slots}
 use Rattle.laws_resize.proofs.resizing.Hanging.{moved-shaped, moved-content}
 
 -- a blob with other bytes in its last leaf

@@ -19,7 +19,7 @@ use Rattle.laws.proofs.Totals.{leaves-mono, total-mono, total-ge}
 use Rattle.laws.proofs.Heights.{height-least}
 use Rattle.laws.proofs.Shapes.{shaped-leaves, shaped-height, shaped-blocks}
 use Rattle.laws.proofs.Codec.{padded-length, padded-small}
-use Rattle.laws_resize.proofs.resizing.Slots.{times, times-append, member-times, times-member}
+use Rattle.laws_resize.proofs.resizing.SlotCounts.{times, times-append, member-times, times-member}
 use Rattle.laws_resize.proofs.resizing.Last.{padded-is}
 use Rattle.laws_resize.proofs.resizing.Longer.{longer-shaped, longer-content, longer-root, longer-slots}
 use Rattle.laws_resize.proofs.resizing.Shorter.{shorter-shaped, shorter-content, shorter-root, shorter-slots}

@@ -14,7 +14,7 @@ use Rattle.meaning.specs.Shape.{leavesFor, total, ShapedTree, Shaped}
 use Rattle.meaning.specs.Resize.{lastLeaf, lastBytes, keep, lower, shorter}
 use Rattle.laws.proofs.Totals.{leaves-zero, leaves-some, leaves-fit, leaves-tight, leaves-is}
 use Rattle.laws.proofs.Shapes.{shaped-leaves}
-use Rattle.laws_resize.proofs.resizing.Slots.{times, blob-slots, slots-for}
+use Rattle.laws_resize.proofs.resizing.SlotCounts.{times, blob-slots, slots-for}
 use Rattle.laws_resize.proofs.resizing.Last.{padded-is, reaches-last, into-last, tall-leaves, last-length, last-joined, last-slot, last-slots}
 use Rattle.laws_resize.proofs.resizing.Last.{last-shaped, LastBytes, last-content}
 use Rattle.laws_resize.proofs.resizing.Keeping.{keep-slot, keep-slots, inner-shaped, keep-shaped, KeptBytes, keep-content}

@@ -17,8 +17,8 @@ use Rattle.meaning.specs.Calls.{live}
 use Rattle.meaning.specs.Run.{blocksOf}
 use Rattle.laws.proofs.Inversions.{never, by-test}
 use Rattle.laws.proofs.Codec.{state-known}
-use Rattle.laws_resize.proofs.resizing.Slots.{times, times-append, times-cons, slots-for}
-use Rattle.laws_sound.proofs.sound.Slots.{times-none, times-same, times-other, by-times, Each, each-first, each-rest, range-has}
+use Rattle.laws_resize.proofs.resizing.SlotCounts.{times, times-append, times-cons, slots-for}
+use Rattle.laws_sound.proofs.sound.TimesListed.{times-none, times-same, times-other, by-times, Each, each-first, each-rest, range-has}
 use Rattle.laws_sound.proofs.sound.Cells.{Every}
 use Rattle.laws_sound.proofs.sound.Blobs.{Lies}
 use Rattle.laws_sound.proofs.sound.Pools.{isHead, allSlots, all-none, all-cons, slots-root, Pool, all-within, all-live}

@@ -18,8 +18,8 @@ use Rattle.meaning.specs.Resize.{lowest}
 use Rattle.meaning.specs.Calls.{done, slotsIn, sized, usable, createCall, createIn, createOn}
 use Rattle.meaning.specs.Calls.{deleteCall, deleteIn, deleteOn, refuseFull}
 use Rattle.meaning.specs.Walk.{poolCheck}
-use Rattle.laws_resize.proofs.resizing.Slots.{times}
-use Rattle.laws_sound.proofs.sound.Slots.{by-slot, by-times, Each, each-none, each-more}
+use Rattle.laws_resize.proofs.resizing.SlotCounts.{times}
+use Rattle.laws_sound.proofs.sound.TimesListed.{by-slot, by-times, Each, each-none, each-more}
 use Rattle.laws_sound.proofs.sound.Cells.{Every, cellSlots}
 use Rattle.laws_sound.proofs.sound.Blobs.{blob-fits}
 use Rattle.laws_sound.proofs.again.Usable.{Usable, usable-each, lowest-in}

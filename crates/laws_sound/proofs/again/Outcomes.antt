@@ -21,8 +21,8 @@ use Rattle.meaning.specs.Change.{Change}
 use Rattle.meaning.specs.Calls.{Outcome, refused, done, refuseIf, afterCheck, slotsIn, sized, refuseBadRecord, opened, withBlob, rooted, changing}
 use Rattle.meaning.specs.Calls.{reading, refuseWorn}
 use Rattle.laws.proofs.Inversions.{by-test, both-true, true-both}
-use Rattle.laws_resize.proofs.resizing.Slots.{times, times-append, times-cons}
-use Rattle.laws_sound.proofs.sound.Slots.{range-has, Each, each-none, each-more, marked, no-flag, times-same}
+use Rattle.laws_resize.proofs.resizing.SlotCounts.{times, times-append, times-cons}
+use Rattle.laws_sound.proofs.sound.TimesListed.{range-has, Each, each-none, each-more, marked, no-flag, times-same}
 use Rattle.laws_sound.proofs.sound.Cells.{every-apart}
 use Rattle.laws_sound.proofs.sound.Blobs.{Lies, lies-walk, lies-within}
 use Rattle.laws_sound.proofs.sound.Pools.{allSlots, all-append, all-cons, Pool, pool-found, slots-root, pool-passes}

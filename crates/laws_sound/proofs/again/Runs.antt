@@ -24,7 +24,7 @@ use Rattle.meaning.specs.Run.{Call, saidBy, says, perform, moments, without, no
 use Rattle.laws.proofs.Inversions.{by-test}
 use Rattle.laws.proofs.Parts.{pasted-length}
 use Rattle.laws.proofs.Codec.{padded-length}
-use Rattle.laws_sound.proofs.sound.Slots.{marked}
+use Rattle.laws_sound.proofs.sound.TimesListed.{marked}
 use Rattle.laws_sound.proofs.sound.Cells.{Every}
 use Rattle.laws_sound.proofs.sound.Pools.{allSlots, Pool, pool-passes, pool-one}
 use Rattle.laws_sound.proofs.again.Outcomes.{opens-passes}

@@ -18,10 +18,10 @@ use Rattle.meaning.specs.Resize.{refilled, resized}
 use Rattle.meaning.specs.Calls.{done, slotsIn, sized, usable, writeCall, writeIn, writeOn}
 use Rattle.meaning.specs.Calls.{resizeCall, resizeIn, resizeOn, newBlocks, refuseFull, refusePast}
 use Rattle.laws.proofs.Parts.{pasted-length}
-use Rattle.laws_resize.proofs.resizing.Slots.{times, slots-for}
+use Rattle.laws_resize.proofs.resizing.SlotCounts.{times, slots-for}
 use Rattle.laws_resize.proofs.resizing.Refilled.{refilled-root, refilled-content, refilled-shaped, refilled-slots}
 use Rattle.laws_resize.proofs.resizing.Resized.{resized-shaped, resized-padded, resized-length, resized-root, resized-slots, resized-low}
-use Rattle.laws_sound.proofs.sound.Slots.{by-times, Each, times-take}
+use Rattle.laws_sound.proofs.sound.TimesListed.{by-times, Each, times-take}
 use Rattle.laws_sound.proofs.sound.Cells.{Every}
 use Rattle.laws_sound.proofs.sound.Blobs.{Lies, lies-within}
 use Rattle.laws_sound.proofs.again.Usable.{Usable, usable-each, usable-once}

@@ -13,8 +13,8 @@ use Rattle.meaning.specs.Bytes.{state, recorded, lastVersion, usableSlot}
 use Rattle.meaning.specs.Resize.{lowest}
 use Rattle.meaning.specs.Calls.{usable}
 use Rattle.laws.proofs.Inversions.{by-test, both-true}
-use Rattle.laws_resize.proofs.resizing.Slots.{times, times-cons}
-use Rattle.laws_sound.proofs.sound.Slots.{times-same, Each, each-none, each-more, range-within, range-once, times-filter}
+use Rattle.laws_resize.proofs.resizing.SlotCounts.{times, times-cons}
+use Rattle.laws_sound.proofs.sound.TimesListed.{times-same, Each, each-none, each-more, range-within, range-once, times-filter}
 
 -- a slot that may be taken
 pub record Usable (N : ℕ) (R : List ℕ) (s : ℕ) : Type 0 where

@@ -17,7 +17,7 @@ use Rattle.meaning.specs.Calls.{slotsIn, sized, freeRecords, wiped, afterWipe}
 use Rattle.laws.proofs.Inversions.{both-true, true-both, list-zeros}
 use Rattle.laws.proofs.Codec.{state-read}
 use Rattle.laws.proofs.Free.{free-record, free-length}
-use Rattle.laws_sound.proofs.sound.Slots.{times-none}
+use Rattle.laws_sound.proofs.sound.TimesListed.{times-none}
 use Rattle.laws_sound.proofs.sound.Pools.{isHead, all-none, Pool}
 use Rattle.laws_sound.proofs.sound.Replaced.{filter-same}
 use Rattle.laws_sound.proofs.sound.After.{free-sound}

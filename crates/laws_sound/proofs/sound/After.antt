@@ -18,8 +18,8 @@ use Rattle.meaning.specs.Change.{Store, changed, changedBy, freed, renewed}
 use Rattle.meaning.specs.Calls.{become}
 use Rattle.laws.proofs.Inversions.{by-test, both-true, same-list, list-zeros, record-sound}
 use Rattle.laws.proofs.Codec.{state-of, recorded-of, state-known, record-kept}
-use Rattle.laws_resize.proofs.resizing.Slots.{times, times-cons}
-use Rattle.laws_sound.proofs.sound.Slots.{times-none, times-same, times-other, by-times, Each, range-within}
+use Rattle.laws_resize.proofs.resizing.SlotCounts.{times, times-cons}
+use Rattle.laws_sound.proofs.sound.TimesListed.{times-none, times-same, times-other, by-times, Each, range-within}
 use Rattle.laws_sound.proofs.sound.Cells.{Every, every-at, cellSlots, Reads, Written, Fits, written-reads}
 use Rattle.laws_sound.proofs.sound.Puts.{made, then-block, then-record, Rising, rising-once, named, changes-rising, changes-named}
 use Rattle.laws_sound.proofs.sound.Replaced.{Kept, kept-state, kept-reads}

@@ -21,8 +21,8 @@ use Rattle.laws.proofs.Inversions.{by-test, fine-andThen}
 use Rattle.laws.proofs.Roots.{walk-root}
 use Rattle.laws.proofs.Walked.{mem-at, root-found, walk-shaped}
 use Rattle.laws_resize.proofs.resizing.Cells.{cell-children, cell-most}
-use Rattle.laws_resize.proofs.resizing.Slots.{member-times, blob-slots, slots}
-use Rattle.laws_sound.proofs.sound.Slots.{Each, Clear, marked}
+use Rattle.laws_resize.proofs.resizing.SlotCounts.{member-times, blob-slots, slots}
+use Rattle.laws_sound.proofs.sound.TimesListed.{Each, Clear, marked}
 use Rattle.laws_sound.proofs.sound.Cells.{Every, every-member, every-map, every-both, every-each, cellSlots}
 use Rattle.laws_sound.proofs.sound.Cells.{Reads, Written, Fits, written-reads}
 use Rattle.laws_sound.proofs.sound.Walks.{Parts, Flags, Finds, found-so, Tells, tree-read, reads-within}

@@ -16,8 +16,8 @@ use Rattle.meaning.specs.Walk.{used}
 use Rattle.laws.proofs.Inversions.{Sound, same-self}
 use Rattle.laws.proofs.Checks.{used-fits}
 use Rattle.laws.proofs.Codec.{cellOf, rowOf, row-length, mark-read, height-read, count-read, slot-read, version-read, rest-read, cell-read}
-use Rattle.laws_resize.proofs.resizing.Slots.{slots, times, times-cons, slots-inner, below, own-slots}
-use Rattle.laws_sound.proofs.sound.Slots.{times-same, Each, each-none, each-more}
+use Rattle.laws_resize.proofs.resizing.SlotCounts.{slots, times, times-cons, slots-inner, below, own-slots}
+use Rattle.laws_sound.proofs.sound.TimesListed.{times-same, Each, each-none, each-more}
 
 -- a claim of each element of a list
 abbrev pub Every : {A : Type 0} → (A → Type 0) → List A → Type 0

@@ -20,11 +20,11 @@ use Rattle.laws.proofs.Inversions.{by-test, must-passed, passed-must, first-pas
 use Rattle.laws.proofs.Inversions.{fine-andThen, fine-same}
 use Rattle.laws.proofs.Positions.{joined-append}
 use Rattle.laws.proofs.Roots.{walk-root, roots-root, roots-other, roots-named}
-use Rattle.laws_resize.proofs.resizing.Slots.{blob-slots, times, times-cons}
-use Rattle.laws_sound.proofs.sound.Slots.{times-none, times-other, by-times}
-use Rattle.laws_sound.proofs.sound.Slots.{range-has, range-within, Each, each-none, each-more, each-first, each-rest, each-append}
-use Rattle.laws_sound.proofs.sound.Slots.{Clear, marked, marked-none, marked-append, marked-length, marked-flag, clear-append, clear-left}
-use Rattle.laws_sound.proofs.sound.Slots.{clear-right, no-flag}
+use Rattle.laws_resize.proofs.resizing.SlotCounts.{blob-slots, times, times-cons}
+use Rattle.laws_sound.proofs.sound.TimesListed.{times-none, times-other, by-times}
+use Rattle.laws_sound.proofs.sound.TimesListed.{range-has, range-within, Each, each-none, each-more, each-first, each-rest, each-append}
+use Rattle.laws_sound.proofs.sound.TimesListed.{Clear, marked, marked-none, marked-append, marked-length, marked-flag, clear-append, clear-left}
+use Rattle.laws_sound.proofs.sound.TimesListed.{clear-right, no-flag}
 use Rattle.laws_sound.proofs.sound.Cells.{Every, slots-own}
 use Rattle.laws_sound.proofs.sound.Walks.{Flags}
 use Rattle.laws_sound.proofs.sound.Blobs.{Lies, lies-walk, lies-within, WalkFound, walk-found}

@@ -18,8 +18,8 @@ use Rattle.laws.proofs.Puts.{puts-append}
 use Rattle.laws.proofs.Puts as slot
 use Rattle.laws.proofs.Codec.{encoded-length, record-length}
 use Rattle.laws.proofs.Inversions.{by-test}
-use Rattle.laws_resize.proofs.resizing.Slots.{times, times-cons}
-use Rattle.laws_sound.proofs.sound.Slots.{times-none, by-slot, Each, each-none, each-more, each-first, each-rest, each-append}
+use Rattle.laws_resize.proofs.resizing.SlotCounts.{times, times-cons}
+use Rattle.laws_sound.proofs.sound.TimesListed.{times-none, by-slot, Each, each-none, each-more, each-first, each-rest, each-append}
 
 -- a put of what is as wide as a slot, at a slot of N
 module _ (w N s : ℕ) (new l : List ℕ) (wide : length new ≡ w) (low : s < N) (long : length l ≡ w * N) where

@@ -14,8 +14,8 @@ use Rattle.meaning.specs.Lists.{pick, range, filter, zeros}
 use Rattle.meaning.specs.Bytes.{Cell, block, recordAt, state, recorded}
 use Rattle.meaning.specs.Tree.{Blob, rootOf, cellsOf, slotsOf}
 use Rattle.laws.proofs.Roots.{filter-append, range-append}
-use Rattle.laws_resize.proofs.resizing.Slots.{times, times-append, times-cons}
-use Rattle.laws_sound.proofs.sound.Slots.{times-none, times-same, by-times, Each, each-left, each-right}
+use Rattle.laws_resize.proofs.resizing.SlotCounts.{times, times-append, times-cons}
+use Rattle.laws_sound.proofs.sound.TimesListed.{times-none, times-same, by-times, Each, each-left, each-right}
 use Rattle.laws_sound.proofs.sound.Cells.{Every, every-apart, every-append, every-at, cellSlots, Reads}
 use Rattle.laws_sound.proofs.sound.Blobs.{Lies}
 use Rattle.laws_sound.proofs.sound.Pools.{isHead, allSlots, all-none, all-cons, all-append, slots-root, lies-part, Pool, all-within, all-live}

@@ -14,8 +14,8 @@ use Rattle.meaning.specs.Shape.{Shaped}
 use Rattle.meaning.specs.Tree.{Blob, rootOf, cellsOf, slotsOf, held, just}
 use Rattle.meaning.specs.Change.{Store}
 use Rattle.meaning.specs.Calls.{become}
-use Rattle.laws_resize.proofs.resizing.Slots.{times, times-cons}
-use Rattle.laws_sound.proofs.sound.Slots.{times-none, times-same, by-times, Each, each-none}
+use Rattle.laws_resize.proofs.resizing.SlotCounts.{times, times-cons}
+use Rattle.laws_sound.proofs.sound.TimesListed.{times-none, times-same, by-times, Each, each-none}
 use Rattle.laws_sound.proofs.sound.Cells.{Every, every-apart, every-at, cellSlots, Reads}
 use Rattle.laws_sound.proofs.sound.Walks.{Parts}
 use Rattle.laws_sound.proofs.sound.Blobs.{Lies, lies-within, blob-fits}

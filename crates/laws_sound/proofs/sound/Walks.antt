@@ -22,11 +22,11 @@ use Rattle.laws.proofs.Inversions.{sound-passed, passed-linked, linked-passed, 
 use Rattle.laws.proofs.Roots.{visit-slot}
 use Rattle.laws.proofs.Walked.{leaf-found, inner-found, none-found, row-found, block-room}
 use Rattle.laws.proofs.Marks.{visit-link}
-use Rattle.laws_resize.proofs.resizing.Slots.{slots, slots-leaf}
-use Rattle.laws_sound.proofs.sound.Slots.{times-none, by-slot, Each, each-none, each-more, each-first, each-rest, each-append, each-left, each-right}
-use Rattle.laws_sound.proofs.sound.Slots.{Clear, marked, marked-none, marked-append, marked-cons, marked-length, marked-flag, clear-rest}
-use Rattle.laws_sound.proofs.sound.Slots.{clear-first, clear-append}
-use Rattle.laws_sound.proofs.sound.Slots.{clear-left, clear-right, flag-set}
+use Rattle.laws_resize.proofs.resizing.SlotCounts.{slots, slots-leaf}
+use Rattle.laws_sound.proofs.sound.TimesListed.{times-none, by-slot, Each, each-none, each-more, each-first, each-rest, each-append, each-left, each-right}
+use Rattle.laws_sound.proofs.sound.TimesListed.{Clear, marked, marked-none, marked-append, marked-cons, marked-length, marked-flag, clear-rest}
+use Rattle.laws_sound.proofs.sound.TimesListed.{clear-first, clear-append}
+use Rattle.laws_sound.proofs.sound.TimesListed.{clear-left, clear-right, flag-set}
 use Rattle.laws_sound.proofs.sound.Cells.{Every, every-map, every-apart, every-append, cellSlots, rowSlots, slots-row}
 use Rattle.laws_sound.proofs.sound.Cells.{tree-slots, row-none, row-first, slots-own, every-each, Reads, reads-row, reads-sound}
 

@@ -1,5 +1,5 @@
 -- The sum fits 64 bits, and the comparison of sums is that of the difference.
-use Rattle.base_shape.proofs.vacancy.Laws.{leaves-totalled, room-fits, room-lacks}
+use Rattle.base_shape.proofs.vacancy.RoomInSums.{leaves-totalled, room-fits, room-lacks}
 use borrow.Author.Needs.{needs}
 use Rattle.base_shape.proofs.vacancy.lacks_room.Statement.{statement}
 use Rattle.base_shape.proofs.vacancy.lacks_room.Tie as tie

@@ -1,5 +1,5 @@
 -- The version is pasted, then the lent stretch comes back filled: both lie in one slot's part.
-use Rattle.base_slot.proofs.slot.Laws.{stretch-stored}
+use Rattle.base_slot.proofs.slot.WithinOneSlot.{stretch-stored}
 use borrow.Author.Needs.{needs}
 use Rattle.base_slot.proofs.slot.store_stretch.Statement.{statement}
 use Rattle.base_slot.proofs.slot.store_stretch.Tie as tie

@@ -4,7 +4,7 @@ use mathlib.Core.Path.{_≡_}
 use Prim.Native.Nat.{_+_, _-_, _≤_}
 use lib.ListN.{length}
 use Rattle.base_slot.specs.usable.{usableFrom}
-use Rattle.base_slot.proofs.usable.Laws.{count-start, count-more, count-end}
+use Rattle.base_slot.proofs.usable.UsableInOrder.{count-start, count-more, count-end}
 use Rattle.base_slot.proofs.usable.count.Statement.{statement}
 use Rattle.base_slot.proofs.usable.count.Tie as tie
 

@@ -1,5 +1,5 @@
 -- By the record's state, then its version.
-use Rattle.base_slot.proofs.usable.Laws.{usable-live, usable-free}
+use Rattle.base_slot.proofs.usable.UsableInOrder.{usable-live, usable-free}
 use borrow.Author.Needs.{needs}
 use Rattle.base_slot.proofs.usable.is_usable.Statement.{statement}
 use Rattle.base_slot.proofs.usable.is_usable.Tie as tie

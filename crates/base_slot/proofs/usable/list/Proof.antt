@@ -5,7 +5,7 @@ use mathlib.Core.List.{_++_}
 use Prim.Native.Nat.{_+_, _-_, _≤_}
 use lib.ListN.{length, take}
 use Rattle.base_slot.specs.usable.{usableFrom}
-use Rattle.base_slot.proofs.usable.Laws.{list-start, list-more, list-end, list-count}
+use Rattle.base_slot.proofs.usable.UsableInOrder.{list-start, list-more, list-end, list-count}
 use Rattle.base_slot.proofs.usable.list.Statement.{statement}
 use Rattle.base_slot.proofs.usable.list.Tie as tie
 

@@ -3,7 +3,7 @@ use borrow.Author.Needs.{needs}
 use mathlib.Core.Path.{_≡_}
 use Prim.Native.Nat.{_-_}
 use Rattle.base_slot.specs.usable.{usableFrom}
-use Rattle.base_slot.proofs.usable.Laws.{lowest-start, lowest-none, lowest-here, lowest-on}
+use Rattle.base_slot.proofs.usable.UsableInOrder.{lowest-start, lowest-none, lowest-here, lowest-on}
 use Rattle.base_slot.proofs.usable.lowest.Statement.{statement}
 use Rattle.base_slot.proofs.usable.lowest.Tie as tie
 

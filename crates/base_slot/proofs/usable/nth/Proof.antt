@@ -1,6 +1,6 @@
 -- Of the list, or past its end.
 use borrow.Author.Needs.{needs}
-use Rattle.base_slot.proofs.usable.Laws.{nth-there, nth-none}
+use Rattle.base_slot.proofs.usable.UsableInOrder.{nth-there, nth-none}
 use Rattle.base_slot.proofs.usable.nth.Statement.{statement}
 use Rattle.base_slot.proofs.usable.nth.Tie as tie
 

@@ -1,6 +1,6 @@
 -- By cases.
 use native.Mathlib.Omega.{arith}
-use Rattle.base_slot.proofs.usable.Laws.{one-taken, one-left}
+use Rattle.base_slot.proofs.usable.UsableInOrder.{one-taken, one-left}
 use Rattle.base_slot.proofs.usable.one_if.Statement.{statement}
 use Rattle.base_slot.proofs.usable.one_if.Tie as tie
 

@@ -1,6 +1,6 @@
 -- By cases.
 use borrow.Author.Needs.{needs}
-use Rattle.base_slot.proofs.usable.Laws.{added-none, added-one}
+use Rattle.base_slot.proofs.usable.UsableInOrder.{added-none, added-one}
 use Rattle.base_slot.proofs.usable.put_if.Statement.{statement}
 use Rattle.base_slot.proofs.usable.put_if.Tie as tie
 

@@ -1,5 +1,5 @@
 -- No usable slot, or one change.
-use Rattle.call_create.proofs.claim.Laws.{create-full, create-line, create-places, create-small, create-fits, create-done}
+use Rattle.call_create.proofs.claim.OneNewSlot.{create-full, create-line, create-places, create-small, create-fits, create-done}
 use borrow.Author.Needs.{needs}
 use Rattle.call_create.proofs.claim.create_free.Statement.{statement}
 use Rattle.call_create.proofs.claim.create_free.Tie as tie

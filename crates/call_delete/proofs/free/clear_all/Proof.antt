@@ -4,9 +4,9 @@ use mathlib.Core.Path.{_≡_}
 use Prim.Native.Nat.{_-_}
 use lib.ListN.{length}
 use Rattle.plan_slot.specs.change.Turns.{Turning}
-use Rattle.plan_slot.proofs.change.Laws.{turning-start, pool-turned, records-turned}
+use Rattle.plan_slot.proofs.change.SlotLoop.{turning-start, pool-turned, records-turned}
 use Rattle.call_delete.specs.free.{clearPlan}
-use Rattle.call_delete.proofs.free.Laws.{clear-whole, clear-turn}
+use Rattle.call_delete.proofs.free.FreedSoFar.{clear-whole, clear-turn}
 use Rattle.call_delete.proofs.free.clear_all.Statement.{statement}
 use Rattle.call_delete.proofs.free.clear_all.Tie as tie
 

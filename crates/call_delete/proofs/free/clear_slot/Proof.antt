@@ -1,5 +1,5 @@
 -- The height noted decides: the slot stays, or its block goes.
-use Rattle.call_delete.proofs.free.Laws.{pool-stays, records-stay, clear-places, clear-pool, clear-records}
+use Rattle.call_delete.proofs.free.FreedSoFar.{pool-stays, records-stay, clear-places, clear-pool, clear-records}
 use borrow.Author.Needs.{needs}
 use Rattle.call_delete.proofs.free.clear_slot.Statement.{statement}
 use Rattle.call_delete.proofs.free.clear_slot.Tie as tie

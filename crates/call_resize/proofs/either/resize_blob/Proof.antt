@@ -1,5 +1,5 @@
 -- Shorter, or not.
-use Rattle.call_resize.proofs.either.Laws.{shorter, longer}
+use Rattle.call_resize.proofs.either.ShorterOrLonger.{shorter, longer}
 use borrow.Author.Needs.{needs}
 use Rattle.call_resize.proofs.either.resize_blob.Statement.{statement}
 use Rattle.call_resize.proofs.either.resize_blob.Tie as tie

@@ -1,5 +1,5 @@
 -- Totals and a height, each worked out once.
-use Rattle.call_resize.proofs.fit.Laws.{blocks-within}
+use Rattle.call_resize.proofs.fit.MoreLeaves.{blocks-within}
 use borrow.Author.Needs.{needs}
 use Rattle.call_resize.proofs.fit.tower_of.Statement.{statement}
 use Rattle.call_resize.proofs.fit.tower_of.Tie as tie

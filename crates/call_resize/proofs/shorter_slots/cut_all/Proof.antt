@@ -3,7 +3,7 @@ use mathlib.Core.Path.{_≡_}
 use Prim.Native.Nat.{_-_}
 use lib.ListN.{length}
 use Rattle.plan_slot.specs.change.Turns.{Turning}
-use Rattle.plan_slot.proofs.change.Laws.{turning-start, pool-turned, records-turned}
+use Rattle.plan_slot.proofs.change.SlotLoop.{turning-start, pool-turned, records-turned}
 use Rattle.plan_shorter.specs.Plans.{cutPlan}
 use Rattle.call_resize.proofs.shorter_slots.Loop.{turn-here, turn-places, turn-fresh, turn-done, turn-small}
 use borrow.Author.Needs.{needs}

@@ -1,8 +1,8 @@
 -- Refusals 1 and 2 handed on, or the leaf's place behind them.
-use Rattle.check_gate.proofs.Laws.{gate-whole}
+use Rattle.check_gate.proofs.BehindTheGate.{gate-whole}
 use Rattle.check_blob.proofs.Lending.{flags-reach, flags-lent, row-reaches, row-lent}
-use Rattle.call_show.proofs.place.Laws.{refused-lies}
-use Rattle.call_show.proofs.find.Laws.{leaf-barred, leaf-behind}
+use Rattle.call_show.proofs.place.PlaceByRow.{refused-lies}
+use Rattle.call_show.proofs.find.PlaceAnswered.{leaf-barred, leaf-behind}
 use borrow.Author.Needs.{needs}
 use Rattle.call_show.proofs.find.find_leaf_call.Statement.{statement}
 use Rattle.call_show.proofs.find.find_leaf_call.Tie as tie

@@ -1,7 +1,7 @@
 -- The refusal handed on, or the leaf in the row.
 use Rattle.check_blob.proofs.Rows.{found-length}
-use Rattle.call_show.proofs.place.Laws.{refused-lies}
-use Rattle.call_show.proofs.find.Laws.{leaf-refused, found-below, leaf-found}
+use Rattle.call_show.proofs.place.PlaceByRow.{refused-lies}
+use Rattle.call_show.proofs.find.PlaceAnswered.{leaf-refused, found-below, leaf-found}
 use borrow.Author.Needs.{needs}
 use Rattle.call_show.proofs.find.find_leaf_in.Statement.{statement}
 use Rattle.call_show.proofs.find.find_leaf_in.Tie as tie

@@ -1,5 +1,5 @@
 -- Past the leaves, or the slot's payload and count.
-use Rattle.call_show.proofs.place.Laws.{leaf-past, leaf-in-pool, leaf-shown, leaf-lies, refused-lies}
+use Rattle.call_show.proofs.place.PlaceByRow.{leaf-past, leaf-in-pool, leaf-shown, leaf-lies, refused-lies}
 use borrow.Author.Needs.{needs}
 use Rattle.call_show.proofs.place.leaf_found.Statement.{statement}
 use Rattle.call_show.proofs.place.leaf_found.Tie as tie

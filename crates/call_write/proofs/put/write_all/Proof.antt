@@ -2,9 +2,9 @@
 use borrow.Author.Needs.{needs}
 use Prim.Native.Nat.{_-_}
 use Rattle.plan_slot.specs.change.Turns.{Turning}
-use Rattle.plan_slot.proofs.change.Laws.{turning-start, pool-turned, records-turned}
+use Rattle.plan_slot.proofs.change.SlotLoop.{turning-start, pool-turned, records-turned}
 use Rattle.plan_write.specs.stretch.{writePlan}
-use Rattle.call_write.proofs.put.Laws.{turn-record, turn-place, turn-writable, write-turn}
+use Rattle.call_write.proofs.put.WrittenSoFar.{turn-record, turn-place, turn-writable, write-turn}
 use Rattle.call_write.proofs.put.write_all.Statement.{statement}
 use Rattle.call_write.proofs.put.write_all.Tie as tie
 

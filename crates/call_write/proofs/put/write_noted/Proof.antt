@@ -1,5 +1,5 @@
 -- The refusal's number with nothing changed, or every slot's change stored.
-use Rattle.call_write.proofs.put.Laws.{noted-refused, noted-leaves, noted-done}
+use Rattle.call_write.proofs.put.WrittenSoFar.{noted-refused, noted-leaves, noted-done}
 use borrow.Author.Needs.{needs}
 use Rattle.call_write.proofs.put.write_noted.Statement.{statement}
 use Rattle.call_write.proofs.put.write_noted.Tie as tie

@@ -1,7 +1,7 @@
 -- Height falls from block to row, and children left in the row's loop. Its invariant: the whole row comes to what the children left come to,
 -- with what was noted so far.
 use Rattle.check_blob.proofs.notes.Bounds.{block-in-pool, row-start, parent-in-pool, child-start, same-role, row-next, small-fault, small-stop, small-none}
-use Rattle.check_blob.proofs.notes.Laws.{note-fault, note-inner, note-zero, note-child, note-child-leaf, notes-end, notes-stop, notes-on}
+use Rattle.check_blob.proofs.notes.WalkAsDefined.{note-fault, note-inner, note-zero, note-child, note-child-leaf, notes-end, notes-stop, notes-on}
 use borrow.Author.Needs.{needs}
 use native.Mathlib.Omega.{arith}
 use mathlib.Core.Path.{_≡_, refl}

@@ -1,5 +1,5 @@
 -- By the edge.
-use Rattle.check_blob.proofs.notes.Laws.{last-on, last-off}
+use Rattle.check_blob.proofs.notes.WalkAsDefined.{last-on, last-off}
 use Rattle.check_blob.proofs.notes.last_of.Statement.{statement}
 use Rattle.check_blob.proofs.notes.last_of.Tie as tie
 

@@ -1,6 +1,6 @@
 -- The one visit of a leaf: its fault, or its bytes and one leaf more.
 use Rattle.check_blob.proofs.notes.Bounds.{block-in-pool, slot-small, leaves-fit, bytes-fit, count-data, leaf-small, small-fault}
-use Rattle.check_blob.proofs.notes.Laws.{note-fault, note-leaf}
+use Rattle.check_blob.proofs.notes.WalkAsDefined.{note-fault, note-leaf}
 use borrow.Author.Needs.{needs}
 use Rattle.check_blob.proofs.notes.visit_leaf.Statement.{statement}
 use Rattle.check_blob.proofs.notes.visit_leaf.Tie as tie

@@ -1,5 +1,5 @@
 -- Each way out is a law of check 1.
-use Rattle.check_blob.proofs.visit.Laws.{link-root, link-past, link-state, link-seen, link-free, link-good}
+use Rattle.check_blob.proofs.visit.VisitAsDefined.{link-root, link-past, link-state, link-seen, link-free, link-good}
 use borrow.Author.Needs.{needs}
 use Rattle.check_blob.proofs.visit.check_link.Statement.{statement}
 use Rattle.check_blob.proofs.visit.check_link.Tie as tie

@@ -1,5 +1,5 @@
 -- The record's version and the block are those of the slot.
-use Rattle.check_blob.proofs.visit.Laws.{slot-checked}
+use Rattle.check_blob.proofs.visit.VisitAsDefined.{slot-checked}
 use borrow.Author.Needs.{needs}
 use Rattle.check_blob.proofs.visit.check_slot.Statement.{statement}
 use Rattle.check_blob.proofs.visit.check_slot.Tie as tie

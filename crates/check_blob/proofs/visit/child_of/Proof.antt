@@ -1,5 +1,5 @@
 -- Four bytes of the block.
-use Rattle.check_blob.proofs.visit.Laws.{child-is}
+use Rattle.check_blob.proofs.visit.VisitAsDefined.{child-is}
 use borrow.Author.Needs.{needs}
 use Rattle.check_blob.proofs.visit.child_of.Statement.{statement}
 use Rattle.check_blob.proofs.visit.child_of.Tie as tie

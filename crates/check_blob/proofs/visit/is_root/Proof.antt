@@ -1,5 +1,5 @@
 -- By cases.
-use Rattle.check_blob.proofs.visit.Laws.{role-root, role-child}
+use Rattle.check_blob.proofs.visit.VisitAsDefined.{role-root, role-child}
 use borrow.Author.Needs.{needs}
 use Rattle.check_blob.proofs.visit.is_root.Statement.{statement}
 use Rattle.check_blob.proofs.visit.is_root.Tie as tie

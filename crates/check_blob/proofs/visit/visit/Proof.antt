@@ -1,5 +1,5 @@
 -- Check 1, then checks 2 and 3, then the mark: each way out is a law of one visit.
-use Rattle.check_blob.proofs.visit.Laws.{visit-unlinked, visit-in-pool, visit-in-records, visit-in-flags, visit-faulty, visit-passed}
+use Rattle.check_blob.proofs.visit.VisitAsDefined.{visit-unlinked, visit-in-pool, visit-in-records, visit-in-flags, visit-faulty, visit-passed}
 use borrow.Author.Needs.{needs}
 use Rattle.check_blob.proofs.visit.visit.Statement.{statement}
 use Rattle.check_blob.proofs.visit.visit.Tie as tie

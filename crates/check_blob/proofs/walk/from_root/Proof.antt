@@ -1,5 +1,5 @@
 -- The block visit of a root, from its own height on.
-use Rattle.check_blob.proofs.walk.Laws.{root-is, root-in-pool, root-start}
+use Rattle.check_blob.proofs.walk.RootNoted.{root-is, root-in-pool, root-start}
 use borrow.Author.Needs.{needs}
 use Rattle.check_blob.proofs.walk.from_root.Statement.{statement}
 use Rattle.check_blob.proofs.walk.from_root.Tie as tie

@@ -4,7 +4,7 @@ use mathlib.Core.Path.{_≡_}
 use Prim.Native.Nat.{_-_}
 use Rattle.meaning.specs.Lists.{range}
 use Rattle.meaning.specs.Walk.{closing}
-use Rattle.check_pool.proofs.closing.Laws.{closing-start, closing-end, closing-stop, closing-on}
+use Rattle.check_pool.proofs.closing.ClosingBySteps.{closing-start, closing-end, closing-stop, closing-on}
 use Rattle.check_pool.proofs.closing.close.Statement.{statement}
 use Rattle.check_pool.proofs.closing.close.Tie as tie
 

@@ -1,5 +1,5 @@
 -- Each way out is a law of the closing pass at one slot.
-use Rattle.check_pool.proofs.closing.Laws.{in-pool, close-free, close-dirty, close-root, close-part, close-lost}
+use Rattle.check_pool.proofs.closing.ClosingBySteps.{in-pool, close-free, close-dirty, close-root, close-part, close-lost}
 use borrow.Author.Needs.{needs}
 use Rattle.check_pool.proofs.closing.close_slot.Statement.{statement}
 use Rattle.check_pool.proofs.closing.close_slot.Tie as tie

@@ -1,12 +1,12 @@
 -- The loop's invariant: the walks from all slots are those from the slots that are left, with what was noted so far.
-use Rattle.check_pool.proofs.roots.Laws.{sized-again}
+use Rattle.check_pool.proofs.roots.RootsBySteps.{sized-again}
 use borrow.Author.Needs.{needs}
 use mathlib.Core.Path.{_≡_, refl}
 use Prim.Native.Nat.{_-_}
 use lib.ListN.{length}
 use Rattle.meaning.specs.Lists.{range}
 use Rattle.check_pool.specs.roots.{kept, rootsNoted}
-use Rattle.check_pool.proofs.roots.Laws.{roots-start, roots-end, roots-stop, roots-on}
+use Rattle.check_pool.proofs.roots.RootsBySteps.{roots-start, roots-end, roots-stop, roots-on}
 use Rattle.check_pool.proofs.roots.walk_roots.Statement.{statement}
 use Rattle.check_pool.proofs.roots.walk_roots.Tie as tie
 

@@ -1,5 +1,5 @@
 -- No root, the named root, another root's fault, another root.
-use Rattle.check_pool.proofs.roots.Laws.{slot-no-root, slot-named, slot-stop, slot-other, lent-nothing}
+use Rattle.check_pool.proofs.roots.RootsBySteps.{slot-no-root, slot-named, slot-stop, slot-other, lent-nothing}
 use borrow.Author.Needs.{needs}
 use Rattle.check_pool.proofs.roots.walk_slot.Statement.{statement}
 use Rattle.check_pool.proofs.roots.walk_slot.Tie as tie

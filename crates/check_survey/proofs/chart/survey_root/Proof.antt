@@ -1,5 +1,5 @@
 -- Refusal 3, or the pool check's fault; behind them the sites may be noted, and then the blob is known.
-use Rattle.check_survey.proofs.chart.Laws.{room-sized, unrooted, rooted-fault, rooted-sites, rooted-known}
+use Rattle.check_survey.proofs.chart.BlobKnown.{room-sized, unrooted, rooted-fault, rooted-sites, rooted-known}
 use borrow.Author.Needs.{needs}
 use Rattle.check_survey.proofs.chart.survey_root.Statement.{statement}
 use Rattle.check_survey.proofs.chart.survey_root.Tie as tie

@@ -1,6 +1,6 @@
 -- Height falls from block to row, and children left in the row's loop. Its invariant: what is left to note brings the rows to what the whole
 -- row was to bring them to.
-use Rattle.check_survey.proofs.sites.Laws.{Going, leaf-noted, leaf-counted, inner-noted, inner-counted, row-begun, row-on, row-on-counted, row-end, row-end-counted}
+use Rattle.check_survey.proofs.sites.NotedAsTheyStand.{Going, leaf-noted, leaf-counted, inner-noted, inner-counted, row-begun, row-on, row-on-counted, row-end, row-end-counted}
 use Rattle.check_survey.proofs.sites.Bounds.{in-heights, in-firsts, few-enough, one-more, block-in-pool, row-start, parent-in-pool, child-start, row-next}
 use borrow.Author.Needs.{needs}
 use native.Mathlib.Omega.{arith}

@@ -1,5 +1,5 @@
 -- The block visit of the root, by the height that its block has.
-use Rattle.check_survey.proofs.sites.Laws.{blob-noted}
+use Rattle.check_survey.proofs.sites.NotedAsTheyStand.{blob-noted}
 use Rattle.check_survey.proofs.sites.Bounds.{root-in-pool, root-start}
 use borrow.Author.Needs.{needs}
 use Rattle.check_survey.proofs.sites.note_sites.Statement.{statement}

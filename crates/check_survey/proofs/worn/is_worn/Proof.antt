@@ -3,7 +3,7 @@ use borrow.Author.Needs.{needs}
 use mathlib.Core.Path.{_≡_}
 use Prim.Native.Nat.{_-_}
 use Rattle.check_survey.specs.worn.{freshFrom}
-use Rattle.check_survey.proofs.worn.Slots.{worn-start, worn-here, worn-on, worn-none}
+use Rattle.check_survey.proofs.worn.WornSoFar.{worn-start, worn-here, worn-on, worn-none}
 use Rattle.check_survey.proofs.worn.is_worn.Statement.{statement}
 use Rattle.check_survey.proofs.worn.is_worn.Tie as tie
 

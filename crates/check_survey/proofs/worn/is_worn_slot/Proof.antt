@@ -1,6 +1,6 @@
 -- The height noted decides whether the slot is the blob's; then the version, which is at most the last, for it is of 64 bits.
 use borrow.Author.Needs.{needs}
-use Rattle.check_survey.proofs.worn.Slots.{slot-other, slot-version}
+use Rattle.check_survey.proofs.worn.WornSoFar.{slot-other, slot-version}
 use Rattle.check_survey.proofs.worn.is_worn_slot.Statement.{statement}
 use Rattle.check_survey.proofs.worn.is_worn_slot.Tie as tie
 

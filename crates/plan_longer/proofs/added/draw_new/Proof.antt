@@ -5,7 +5,7 @@ use native.Mathlib.Omega.{arith}
 use borrow.Author.Needs.{needs}
 use Rattle.plan_longer.proofs.risen.Sizes.{number-small, new-small}
 use Rattle.plan_longer.proofs.added.Sizes.{own-fits, edge-low, edge-power, edge-first}
-use Rattle.plan_longer.proofs.added.Laws.{new-edge}
+use Rattle.plan_longer.proofs.added.EdgeDrawn.{new-edge}
 use Rattle.plan_longer.proofs.added.draw_new.Statement.{statement}
 use Rattle.plan_longer.proofs.added.draw_new.Tie as tie
 

@@ -1,5 +1,5 @@
 -- An inner block, another height, the count: each way out is one law.
-use Rattle.plan_longer.proofs.enlarged.Laws.{settled-inner, settled-height, settled-count}
+use Rattle.plan_longer.proofs.enlarged.OldBlocksPlanned.{settled-inner, settled-height, settled-count}
 use borrow.Author.Needs.{needs}
 use Rattle.plan_longer.proofs.enlarged.is_settled.Statement.{statement}
 use Rattle.plan_longer.proofs.enlarged.is_settled.Tie as tie

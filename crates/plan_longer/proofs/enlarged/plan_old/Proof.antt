@@ -1,6 +1,6 @@
 -- A leaf that has all its bytes stays. Any other block is drawn by where it stands, and compared with the one that is there.
 use native.Mathlib.Omega.{arith}
-use Rattle.plan_longer.proofs.enlarged.Laws.{old-most, old-share, redrawn-old, redrawn-settled}
+use Rattle.plan_longer.proofs.enlarged.OldBlocksPlanned.{old-most, old-share, redrawn-old, redrawn-settled}
 use borrow.Author.Needs.{needs}
 use Rattle.plan_longer.proofs.enlarged.plan_old.Statement.{statement}
 use Rattle.plan_longer.proofs.enlarged.plan_old.Tie as tie

@@ -1,7 +1,7 @@
 -- The root is drawn at its new height, and compared with its block as it was.
 use native.Mathlib.Omega.{arith}
 use Rattle.plan_longer.proofs.towers.Sizes.{top-above}
-use Rattle.plan_longer.proofs.enlarged.Laws.{redrawn-root}
+use Rattle.plan_longer.proofs.enlarged.OldBlocksPlanned.{redrawn-root}
 use borrow.Author.Needs.{needs}
 use Rattle.plan_longer.proofs.enlarged.plan_root.Statement.{statement}
 use Rattle.plan_longer.proofs.enlarged.plan_root.Tie as tie

@@ -1,7 +1,7 @@
 -- A leaf or an inner block, one higher than the lower function's number.
 use Rattle.laws.proofs.Checks.{inner-most}
-use Rattle.plan_tree.proofs.subtrees.Laws.{low-power}
-use Rattle.plan_longer.proofs.extended.Laws.{grown-lowest, grown-higher, low-share}
+use Rattle.plan_tree.proofs.subtrees.SubtreesFromBelow.{low-power}
+use Rattle.plan_longer.proofs.extended.RowContinued.{grown-lowest, grown-higher, low-share}
 use borrow.Author.Needs.{needs}
 use Rattle.plan_longer.proofs.extended.draw_grown.Statement.{statement}
 use Rattle.plan_longer.proofs.extended.draw_grown.Tie as tie

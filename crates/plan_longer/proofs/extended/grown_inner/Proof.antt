@@ -1,5 +1,5 @@
 -- The old slots are copied, and the new ones put behind them.
-use Rattle.plan_longer.proofs.extended.Laws.{copied-long, grown-inner}
+use Rattle.plan_longer.proofs.extended.RowContinued.{copied-long, grown-inner}
 use borrow.Author.Needs.{needs}
 use Rattle.plan_longer.proofs.extended.grown_inner.Statement.{statement}
 use Rattle.plan_longer.proofs.extended.grown_inner.Tie as tie

@@ -1,5 +1,5 @@
 -- The old bytes with zeros after are the grown row's.
-use Rattle.plan_longer.proofs.extended.Laws.{grown-leaf}
+use Rattle.plan_longer.proofs.extended.RowContinued.{grown-leaf}
 use borrow.Author.Needs.{needs}
 use Rattle.plan_longer.proofs.extended.grown_leaf.Statement.{statement}
 use Rattle.plan_longer.proofs.extended.grown_leaf.Tie as tie

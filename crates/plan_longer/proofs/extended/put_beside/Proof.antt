@@ -1,5 +1,5 @@
 -- The numbers are those of the right edge, so the slots are those of the new row.
-use Rattle.plan_longer.proofs.extended.Laws.{many-beside, put-beside}
+use Rattle.plan_longer.proofs.extended.RowContinued.{many-beside, put-beside}
 use borrow.Author.Needs.{needs}
 use Rattle.plan_longer.proofs.extended.put_beside.Statement.{statement}
 use Rattle.plan_longer.proofs.extended.put_beside.Tie as tie

@@ -1,5 +1,5 @@
 -- One slot over zeros, and the new children's behind it.
-use Rattle.plan_longer.proofs.fresh.Laws.{above-drawn}
+use Rattle.plan_longer.proofs.fresh.NewBlocksDrawn.{above-drawn}
 use borrow.Author.Needs.{needs}
 use Rattle.plan_longer.proofs.fresh.draw_above.Statement.{statement}
 use Rattle.plan_longer.proofs.fresh.draw_above.Tie as tie

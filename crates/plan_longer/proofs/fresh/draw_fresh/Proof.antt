@@ -1,6 +1,6 @@
 -- A leaf of zeros, or an inner block, one higher than the lower function's number.
-use Rattle.plan_tree.proofs.subtrees.Laws.{low-power}
-use Rattle.plan_longer.proofs.fresh.Laws.{fresh-leaf, fresh-higher}
+use Rattle.plan_tree.proofs.subtrees.SubtreesFromBelow.{low-power}
+use Rattle.plan_longer.proofs.fresh.NewBlocksDrawn.{fresh-leaf, fresh-higher}
 use borrow.Author.Needs.{needs}
 use Rattle.plan_longer.proofs.fresh.draw_fresh.Statement.{statement}
 use Rattle.plan_longer.proofs.fresh.draw_fresh.Tie as tie

@@ -1,5 +1,5 @@
 -- The slots put over zeros are the new row.
-use Rattle.plan_longer.proofs.fresh.Laws.{fresh-inner}
+use Rattle.plan_longer.proofs.fresh.NewBlocksDrawn.{fresh-inner}
 use borrow.Author.Needs.{needs}
 use Rattle.plan_longer.proofs.fresh.fresh_inner.Statement.{statement}
 use Rattle.plan_longer.proofs.fresh.fresh_inner.Tie as tie

@@ -4,7 +4,7 @@ use borrow.Author.Needs.{needs}
 use Rattle.plan_longer.proofs.towers.Sizes.{top-above}
 use Rattle.plan_longer.proofs.risen.Sizes.{top-fits, level-power, level-leaves, level-room, number-within}
 use Rattle.plan_longer.proofs.risen.Sizes.{new-small, side-small, side-first, seat-low, seat-power}
-use Rattle.plan_longer.proofs.risen.Laws.{new-moved, new-side}
+use Rattle.plan_longer.proofs.risen.RisenDrawn.{new-moved, new-side}
 use Rattle.plan_longer.proofs.risen.draw_risen.Statement.{statement}
 use Rattle.plan_longer.proofs.risen.draw_risen.Tie as tie
 

@@ -1,5 +1,5 @@
 -- A slot stays if enough are taken below it or if it is not usable; else it takes the next new block.
-use Rattle.plan_longer.proofs.taken.Laws.{enough-planned, unusable-planned, new-planned, stays-rises, new-can-rise}
+use Rattle.plan_longer.proofs.taken.TakenOrLeft.{enough-planned, unusable-planned, new-planned, stays-rises, new-can-rise}
 use borrow.Author.Needs.{needs}
 use Rattle.plan_longer.proofs.taken.plan_free.Statement.{statement}
 use Rattle.plan_longer.proofs.taken.plan_free.Tie as tie

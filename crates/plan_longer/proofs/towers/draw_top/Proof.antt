@@ -1,7 +1,7 @@
 -- `plan_longer::towers::draw_top` meets its contract: at its old height the root has its own row, filled; above it the child that took its row, and new ones.
 use borrow.Author.Needs.{needs}
 use Rattle.plan_longer.proofs.towers.Sizes.{own-low, own-power, own-most, own-share, below-low, below-power, below-leaves, below-blocks}
-use Rattle.plan_longer.proofs.towers.Laws.{root-own, root-above}
+use Rattle.plan_longer.proofs.towers.RootDrawn.{root-own, root-above}
 use Rattle.plan_longer.proofs.towers.draw_top.Statement.{statement}
 use Rattle.plan_longer.proofs.towers.draw_top.Tie as tie
 

@@ -1,6 +1,6 @@
 -- The row is drawn, and the drawn cell is stored unless height and count stay.
-use Rattle.plan_slot.proofs.renewal.Laws.{renewal-turned, renewal-rises}
-use Rattle.plan_shorter.proofs.kept.Laws.{cuts-few}
+use Rattle.plan_slot.proofs.renewal.DrawnIsChanged.{renewal-turned, renewal-rises}
+use Rattle.plan_shorter.proofs.kept.FewLeaves.{cuts-few}
 use borrow.Author.Needs.{needs}
 use Rattle.plan_shorter.proofs.kept.plan_kept.Statement.{statement}
 use Rattle.plan_shorter.proofs.kept.plan_kept.Tie as tie

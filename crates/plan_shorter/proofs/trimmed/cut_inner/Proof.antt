@@ -1,5 +1,5 @@
 -- The first slots of the payload are those of the cut row.
-use Rattle.plan_shorter.proofs.trimmed.Laws.{cut-inner}
+use Rattle.plan_shorter.proofs.trimmed.RowCut.{cut-inner}
 use borrow.Author.Needs.{needs}
 use Rattle.plan_shorter.proofs.trimmed.cut_inner.Statement.{statement}
 use Rattle.plan_shorter.proofs.trimmed.cut_inner.Tie as tie

@@ -1,5 +1,5 @@
 -- The kept bytes are those of the cut row.
-use Rattle.plan_shorter.proofs.trimmed.Laws.{cut-leaf}
+use Rattle.plan_shorter.proofs.trimmed.RowCut.{cut-leaf}
 use borrow.Author.Needs.{needs}
 use Rattle.plan_shorter.proofs.trimmed.cut_leaf.Statement.{statement}
 use Rattle.plan_shorter.proofs.trimmed.cut_leaf.Tie as tie

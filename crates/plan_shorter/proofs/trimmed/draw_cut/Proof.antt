@@ -1,7 +1,7 @@
 -- A leaf or an inner block, one higher than the lower function's number.
 use Rattle.laws.proofs.Checks.{leaf-fits, inner-most}
-use Rattle.plan_tree.proofs.subtrees.Laws.{low-power}
-use Rattle.plan_shorter.proofs.trimmed.Laws.{cut-lowest, cut-higher}
+use Rattle.plan_tree.proofs.subtrees.SubtreesFromBelow.{low-power}
+use Rattle.plan_shorter.proofs.trimmed.RowCut.{cut-lowest, cut-higher}
 use borrow.Author.Needs.{needs}
 use Rattle.plan_shorter.proofs.trimmed.draw_cut.Statement.{statement}
 use Rattle.plan_shorter.proofs.trimmed.draw_cut.Tie as tie

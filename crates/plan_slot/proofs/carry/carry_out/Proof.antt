@@ -1,6 +1,6 @@
 -- Each case stores what the turn says, with the version that the slot's record has, or one more.
-use Rattle.plan_slot.proofs.carry.Laws.{takes-fits, renews-fits, stays-pool, stays-records, goes-pool, goes-records}
-use Rattle.plan_slot.proofs.carry.Laws.{takes-pool, takes-records, renews-pool, renews-records}
+use Rattle.plan_slot.proofs.carry.TurnCarriedOut.{takes-fits, renews-fits, stays-pool, stays-records, goes-pool, goes-records}
+use Rattle.plan_slot.proofs.carry.TurnCarriedOut.{takes-pool, takes-records, renews-pool, renews-records}
 use borrow.Author.Needs.{needs}
 use Rattle.plan_slot.proofs.carry.carry_out.Statement.{statement}
 use Rattle.plan_slot.proofs.carry.carry_out.Tie as tie

@@ -1,5 +1,5 @@
 -- What was built in the scratch is what is stored.
-use Rattle.plan_slot.proofs.change.Laws.{block-stored}
+use Rattle.plan_slot.proofs.change.SlotLoop.{block-stored}
 use borrow.Author.Needs.{needs}
 use Rattle.plan_slot.proofs.change.put_cell.Statement.{statement}
 use Rattle.plan_slot.proofs.change.put_cell.Tie as tie

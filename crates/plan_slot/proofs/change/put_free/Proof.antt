@@ -1,5 +1,5 @@
 -- The scratch cleared is what is stored.
-use Rattle.plan_slot.proofs.change.Laws.{zeros-stored}
+use Rattle.plan_slot.proofs.change.SlotLoop.{zeros-stored}
 use borrow.Author.Needs.{needs}
 use Rattle.plan_slot.proofs.change.put_free.Statement.{statement}
 use Rattle.plan_slot.proofs.change.put_free.Tie as tie

@@ -1,5 +1,5 @@
 -- The block, then the record.
-use Rattle.plan_slot.proofs.change.Laws.{line-stored}
+use Rattle.plan_slot.proofs.change.SlotLoop.{line-stored}
 use borrow.Author.Needs.{needs}
 use Rattle.plan_slot.proofs.change.store_slot.Statement.{statement}
 use Rattle.plan_slot.proofs.change.store_slot.Tie as tie

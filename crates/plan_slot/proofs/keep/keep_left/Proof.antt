@@ -1,5 +1,5 @@
 -- The slot is found, and its whole block copied.
-use Rattle.plan_slot.proofs.keep.Laws.{keep-fits, keep-done}
+use Rattle.plan_slot.proofs.keep.LeftEdgeFound.{keep-fits, keep-done}
 use borrow.Author.Needs.{needs}
 use Rattle.plan_slot.proofs.keep.keep_left.Statement.{statement}
 use Rattle.plan_slot.proofs.keep.keep_left.Tie as tie

@@ -1,5 +1,5 @@
 -- The whole block of the root's slot.
-use Rattle.plan_slot.proofs.keep.Laws.{kept-block}
+use Rattle.plan_slot.proofs.keep.LeftEdgeFound.{kept-block}
 use borrow.Author.Needs.{needs}
 use Rattle.plan_slot.proofs.keep.keep_root.Statement.{statement}
 use Rattle.plan_slot.proofs.keep.keep_root.Tie as tie

@@ -3,7 +3,7 @@ use borrow.Author.Needs.{needs}
 use mathlib.Core.Path.{_≡_}
 use Prim.Native.Nat.{_-_, _≤_}
 use Rattle.plan_slot.specs.keep.{firstBelow}
-use Rattle.plan_slot.proofs.keep.Laws.{some-fan, below-start, below-fits, below-next, below-done}
+use Rattle.plan_slot.proofs.keep.LeftEdgeFound.{some-fan, below-start, below-fits, below-next, below-done}
 use Rattle.plan_slot.proofs.keep.left_slot.Statement.{statement}
 use Rattle.plan_slot.proofs.keep.left_slot.Tie as tie
 

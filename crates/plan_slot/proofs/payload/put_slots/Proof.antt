@@ -3,7 +3,7 @@ use mathlib.Core.Path.{_≡_}
 use Prim.Native.Nat.{_+_, _-_, _*_, _^_, _≤_}
 use lib.ListN.{length}
 use borrow.Author.Needs.{needs}
-use Rattle.plan_slot.proofs.payload.Slots.{Put, put-none, put-more, put-all}
+use Rattle.plan_slot.proofs.payload.SlotsPutIn.{Put, put-none, put-more, put-all}
 use Rattle.plan_slot.proofs.payload.put_slots.Statement.{statement}
 use Rattle.plan_slot.proofs.payload.put_slots.Tie as tie
 

@@ -1,5 +1,5 @@
 -- One, or none.
-use Rattle.plan_slot.proofs.turn.Laws.{stays-count, goes-count, takes-count, renews-count}
+use Rattle.plan_slot.proofs.turn.TurnByCases.{stays-count, goes-count, takes-count, renews-count}
 use borrow.Author.Needs.{needs}
 use Rattle.plan_slot.proofs.turn.changes.Statement.{statement}
 use Rattle.plan_slot.proofs.turn.changes.Tie as tie

@@ -1,5 +1,5 @@
 -- Height, then count.
-use Rattle.plan_slot.proofs.turn.Laws.{height-differs, count-differs, none-differs}
+use Rattle.plan_slot.proofs.turn.TurnByCases.{height-differs, count-differs, none-differs}
 use borrow.Author.Needs.{needs}
 use Rattle.plan_slot.proofs.turn.renewed.Statement.{statement}
 use Rattle.plan_slot.proofs.turn.renewed.Tie as tie

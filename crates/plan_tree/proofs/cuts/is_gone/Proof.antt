@@ -1,5 +1,5 @@
 -- The tests in their order.
-use Rattle.plan_tree.proofs.cuts.Laws.{gone-past, gone-off, gone-left}
+use Rattle.plan_tree.proofs.cuts.GoneOrNot.{gone-past, gone-off, gone-left}
 use Rattle.plan_tree.proofs.cuts.is_gone.Statement.{statement}
 use Rattle.plan_tree.proofs.cuts.is_gone.Tie as tie
 

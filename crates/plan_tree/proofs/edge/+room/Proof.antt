@@ -3,8 +3,8 @@ use Prim.Native.Nat.{ℕ, _<_}
 use mathlib.Core.Path.{_≡_}
 use native.Mathlib.Omega.{arith}
 use borrow.Author.Needs.{needs}
-use Rattle.plan_tree.proofs.subtrees.Laws.{pow-down}
-use Rattle.plan_tree.proofs.edge.Laws.{room-none, room-back, room-fits}
+use Rattle.plan_tree.proofs.subtrees.SubtreesFromBelow.{pow-down}
+use Rattle.plan_tree.proofs.edge.EdgeFromBelow.{room-none, room-back, room-fits}
 use borrow.Fn.Kinds.{In}
 use borrow.Fn.PlainCycle.{Measures, is, falls, and}
 use Rattle.plan_tree.proofs.edge.room.Reads as room

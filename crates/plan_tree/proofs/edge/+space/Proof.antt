@@ -3,8 +3,8 @@ use Prim.Native.Nat.{ℕ, _<_}
 use mathlib.Core.Path.{_≡_}
 use native.Mathlib.Omega.{arith}
 use borrow.Author.Needs.{needs}
-use Rattle.plan_tree.proofs.subtrees.Laws.{pow-down, bulk-twice}
-use Rattle.plan_tree.proofs.edge.Laws.{space-none, space-back, space-fits}
+use Rattle.plan_tree.proofs.subtrees.SubtreesFromBelow.{pow-down, bulk-twice}
+use Rattle.plan_tree.proofs.edge.EdgeFromBelow.{space-none, space-back, space-fits}
 use borrow.Fn.Kinds.{In}
 use borrow.Fn.PlainCycle.{Measures, is, falls, and}
 use Rattle.plan_tree.proofs.edge.space.Reads as space

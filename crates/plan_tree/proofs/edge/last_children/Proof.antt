@@ -1,8 +1,8 @@
 -- `plan_tree::edge::last_children` meets its contract: the definition is the same, and a rest is below the fan-out.
 use native.Mathlib.Omega.{arith}
 use borrow.Author.Needs.{needs}
-use Rattle.plan_tree.proofs.subtrees.Laws.{pow-some}
-use Rattle.plan_tree.proofs.edge.Laws.{last-is, last-fits}
+use Rattle.plan_tree.proofs.subtrees.SubtreesFromBelow.{pow-some}
+use Rattle.plan_tree.proofs.edge.EdgeFromBelow.{last-is, last-fits}
 use Rattle.plan_tree.proofs.edge.last_children.Statement.{statement}
 use Rattle.plan_tree.proofs.edge.last_children.Tie as tie
 

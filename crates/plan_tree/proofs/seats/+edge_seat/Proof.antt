@@ -2,8 +2,8 @@
 use Prim.Native.Nat.{ℕ, _<_}
 use native.Mathlib.Omega.{arith}
 use borrow.Author.Needs.{needs}
-use Rattle.plan_tree.proofs.subtrees.Laws.{pow-down}
-use Rattle.plan_tree.proofs.seats.Laws.{edge-none, edge-below, edge-beside}
+use Rattle.plan_tree.proofs.subtrees.SubtreesFromBelow.{pow-down}
+use Rattle.plan_tree.proofs.seats.SeatsFromBelow.{edge-none, edge-below, edge-beside}
 use borrow.Fn.Kinds.{In}
 use borrow.Fn.PlainCycle.{Measures, is, falls, and}
 use Rattle.plan_tree.proofs.seats.edge_seat.Reads as edge-seat

@@ -3,8 +3,8 @@
 use Prim.Native.Nat.{ℕ, _-_, _<_}
 use native.Mathlib.Omega.{arith}
 use borrow.Author.Needs.{needs}
-use Rattle.plan_tree.proofs.subtrees.Laws.{pow-down, bulk-some}
-use Rattle.plan_tree.proofs.seats.Laws.{share-fits, sits-leaf, sits-top, sits-down}
+use Rattle.plan_tree.proofs.subtrees.SubtreesFromBelow.{pow-down, bulk-some}
+use Rattle.plan_tree.proofs.seats.SeatsFromBelow.{share-fits, sits-leaf, sits-top, sits-down}
 use borrow.Fn.Kinds.{In}
 use borrow.Fn.PlainCycle.{Measures, is, falls, and}
 use Rattle.plan_tree.proofs.seats.locate.Reads as locate

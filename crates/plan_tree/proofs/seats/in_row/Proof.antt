@@ -1,8 +1,8 @@
 -- `plan_tree::seats::in_row` meets its contract: the definition is the same, and a row has no more leaves than blocks.
 use native.Mathlib.Omega.{arith}
 use borrow.Author.Needs.{needs}
-use Rattle.plan_tree.proofs.subtrees.Laws.{bulk-some}
-use Rattle.plan_tree.proofs.seats.Laws.{share-fits, sits-row}
+use Rattle.plan_tree.proofs.subtrees.SubtreesFromBelow.{bulk-some}
+use Rattle.plan_tree.proofs.seats.SeatsFromBelow.{share-fits, sits-row}
 use Rattle.plan_tree.proofs.seats.in_row.Statement.{statement}
 use Rattle.plan_tree.proofs.seats.in_row.Tie as tie
 

@@ -2,7 +2,7 @@
 -- and the calls end.
 use Prim.Native.Nat.{ℕ, _+_, _-_, _<_}
 use native.Mathlib.Omega.{arith}
-use Rattle.plan_tree.proofs.subtrees.Laws.{pow-rises, level-less, level-found}
+use Rattle.plan_tree.proofs.subtrees.SubtreesFromBelow.{pow-rises, level-less, level-found}
 use borrow.Fn.Kinds.{In}
 use borrow.Fn.PlainCycle.{Measures, is, falls, and}
 use Rattle.plan_tree.proofs.subtrees.level_of.Reads as level-of

@@ -1,7 +1,7 @@
 -- `plan_tree::subtrees::places` meets its contract: the definition is the same, and a power is not 0.
 use native.Mathlib.Omega.{arith}
 use borrow.Author.Needs.{needs}
-use Rattle.plan_tree.proofs.subtrees.Laws.{pow-some, places-none, places-few, places-all}
+use Rattle.plan_tree.proofs.subtrees.SubtreesFromBelow.{pow-some, places-none, places-few, places-all}
 use Rattle.plan_tree.proofs.subtrees.places.Statement.{statement}
 use Rattle.plan_tree.proofs.subtrees.places.Tie as tie
 

@@ -1,5 +1,5 @@
 -- The version that was read is below the last, so one more fits.
-use Rattle.plan_write.proofs.patch.Laws.{version-fits, version-next}
+use Rattle.plan_write.proofs.patch.PatchedAsPlanned.{version-fits, version-next}
 use borrow.Author.Needs.{needs}
 use Rattle.plan_write.proofs.patch.next_version.Statement.{statement}
 use Rattle.plan_write.proofs.patch.next_version.Tie as tie

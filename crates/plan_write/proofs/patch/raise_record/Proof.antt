@@ -1,5 +1,5 @@
 -- The record's state is read, and the record built with it is stored.
-use Rattle.plan_write.proofs.patch.Laws.{record-raised}
+use Rattle.plan_write.proofs.patch.PatchedAsPlanned.{record-raised}
 use borrow.Author.Needs.{needs}
 use Rattle.plan_write.proofs.patch.raise_record.Statement.{statement}
 use Rattle.plan_write.proofs.patch.raise_record.Tie as tie

@@ -1,5 +1,5 @@
 -- Block and record are stored with the same version.
-use Rattle.plan_write.proofs.patch.Laws.{pool-stored, records-stored}
+use Rattle.plan_write.proofs.patch.PatchedAsPlanned.{pool-stored, records-stored}
 use borrow.Author.Needs.{needs}
 use Rattle.plan_write.proofs.patch.store_leaf.Statement.{statement}
 use Rattle.plan_write.proofs.patch.store_leaf.Tie as tie

@@ -1,5 +1,5 @@
 -- No stretch and nothing is stored; else the stored bytes are the planned block's and record's.
-use Rattle.plan_write.proofs.patch.Laws.{leaf-count, pool-stays, records-stay, store-room, store-source, store-young, pool-put, records-put}
+use Rattle.plan_write.proofs.patch.PatchedAsPlanned.{leaf-count, pool-stays, records-stay, store-room, store-source, store-young, pool-put, records-put}
 use borrow.Author.Needs.{needs}
 use Rattle.plan_write.proofs.patch.write_slot.Statement.{statement}
 use Rattle.plan_write.proofs.patch.write_slot.Tie as tie

@@ -1,6 +1,6 @@
 -- Nothing touched, or the same bytes: no stretch. Else the touched stretch, which lies in the leaf's bytes.
-use Rattle.plan_write.proofs.stretch.Laws.{in-block, place-fits}
-use Rattle.plan_write.proofs.stretch.Laws.{none-touched, chosen-none, in-source, none-differs, some-differs, chosen-some}
+use Rattle.plan_write.proofs.stretch.StretchAnswered.{in-block, place-fits}
+use Rattle.plan_write.proofs.stretch.StretchAnswered.{none-touched, chosen-none, in-source, none-differs, some-differs, chosen-some}
 use borrow.Author.Needs.{needs}
 use Rattle.plan_write.proofs.stretch.differing_in.Statement.{statement}
 use Rattle.plan_write.proofs.stretch.differing_in.Tie as tie

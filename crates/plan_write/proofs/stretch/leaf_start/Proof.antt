@@ -1,6 +1,6 @@
 -- A leaf's number has four bytes and a payload's size one, so the product fits.
 use native.Mathlib.Omega.{arith}
-use Rattle.plan_write.proofs.stretch.Laws.{start-fits}
+use Rattle.plan_write.proofs.stretch.StretchAnswered.{start-fits}
 use borrow.Author.Needs.{needs}
 use Rattle.plan_write.proofs.stretch.leaf_start.Statement.{statement}
 use Rattle.plan_write.proofs.stretch.leaf_start.Tie as tie

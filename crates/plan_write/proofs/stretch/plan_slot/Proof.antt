@@ -1,5 +1,5 @@
 -- The height noted decides: no leaf of the blob, or the leaf's stretch that differs.
-use Rattle.plan_write.proofs.stretch.Laws.{plan-none, plan-out, plan-leaf, plan-in, plan-count}
+use Rattle.plan_write.proofs.stretch.StretchAnswered.{plan-none, plan-out, plan-leaf, plan-in, plan-count}
 use borrow.Author.Needs.{needs}
 use Rattle.plan_write.proofs.stretch.plan_slot.Statement.{statement}
 use Rattle.plan_write.proofs.stretch.plan_slot.Tie as tie

@@ -1,9 +1,9 @@
 -- The loop's invariant: all of the bytes are the same just if those from i on are. A place where they differ was read, so it is bytes.
 use native.Mathlib.Omega.{arith}
-use Rattle.plan_write.proofs.stretch.Laws.{never-compared}
+use Rattle.plan_write.proofs.stretch.StretchAnswered.{never-compared}
 use borrow.Author.Needs.{needs}
 use Prim.Native.Nat.{_-_}
-use Rattle.plan_write.proofs.stretch.Laws.{Left, left-start, left-end, left-stop, left-more}
+use Rattle.plan_write.proofs.stretch.StretchAnswered.{Left, left-start, left-end, left-stop, left-more}
 use Rattle.plan_write.proofs.stretch.same_bytes.Statement.{statement}
 use Rattle.plan_write.proofs.stretch.same_bytes.Tie as tie
 

@@ -1,5 +1,5 @@
 -- The numbers of the stretch, each by its own difference.
-use Rattle.plan_write.proofs.stretch.Laws.{numbers-touched}
+use Rattle.plan_write.proofs.stretch.StretchAnswered.{numbers-touched}
 use borrow.Author.Needs.{needs}
 use Rattle.plan_write.proofs.stretch.touched.Statement.{statement}
 use Rattle.plan_write.proofs.stretch.touched.Tie as tie

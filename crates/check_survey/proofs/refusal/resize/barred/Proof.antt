@@ -1,5 +1,5 @@
 -- Refusal 12 first, then 11.
-use Rattle.check_survey.proofs.refusal.Laws.{resize-worn, resize-full, resize-none}
+use Rattle.check_survey.proofs.refusal.NumberByTests.{resize-worn, resize-full, resize-none}
 use borrow.Author.Needs.{needs}
 use Rattle.check_survey.proofs.refusal.resize.barred.Statement.{statement}
 use Rattle.check_survey.proofs.refusal.resize.barred.Tie as tie

@@ -1,5 +1,5 @@
 -- Refusal 12 first, then 10 by two comparisons, neither of which adds.
-use Rattle.check_survey.proofs.refusal.Laws.{write-worn, write-before, write-past, write-none}
+use Rattle.check_survey.proofs.refusal.NumberByTests.{write-worn, write-before, write-past, write-none}
 use borrow.Author.Needs.{needs}
 use Rattle.check_survey.proofs.refusal.write.barred.Statement.{statement}
 use Rattle.check_survey.proofs.refusal.write.barred.Tie as tie

@@ -21,7 +21,7 @@ use Rattle.plan_longer.specs.declared.fresh.Growth.{Growth}
 use Rattle.plan_longer.specs.fresh.{Grows}
 use Rattle.plan_longer.specs.declared.towers.Tower.{Tower}
 use Rattle.plan_longer.specs.towers.{Towers}
-use Rattle.plan_longer.proofs.towers.Laws.{draws-as, new-leaves, rootAt, blocks-is}
+use Rattle.plan_longer.proofs.towers.RootDrawn.{draws-as, new-leaves, rootAt, blocks-is}
 
 -- what the new block p holds
 abbrev pub newAt : Edition → Growth → Tower → (free row : List ℕ) → ℕ → Cell

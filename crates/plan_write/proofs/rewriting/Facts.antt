@@ -28,17 +28,17 @@ use Rattle.laws_resize.proofs.growth.Changes.{held-at, rewrite-old, rewrite-inn
 use Rattle.laws_sound.proofs.sound.Cells.{Every, Reads, reads-sound}
 use Rattle.laws_sound.proofs.sound.Blobs.{Lies}
 use Rattle.laws_sound.proofs.sound.Pools.{pool-found}
-use Rattle.check_blob.proofs.visit.Laws.{slot-fits}
+use Rattle.check_blob.proofs.visit.VisitAsDefined.{slot-fits}
 use Rattle.check_survey.specs.sites.Spelt.{blobAt, siteAt}
 use Rattle.check_survey.specs.sites.Known.{Known}
-use Rattle.check_survey.proofs.worn.Laws.{unworn-slot}
+use Rattle.check_survey.proofs.worn.WornByHeights.{unworn-slot}
 use Rattle.plan_slot.specs.change.Turns.{over}
-use Rattle.plan_slot.proofs.change.Laws.{changes-over, over-same}
+use Rattle.plan_slot.proofs.change.SlotLoop.{changes-over, over-same}
 use Rattle.plan_write.specs.stretch.{touchedBy, stretched, leafCell, writePlan, Counted}
 use Rattle.plan_write.proofs.stretch.Stretches.{touched-part}
-use Rattle.plan_write.specs.laws.{Unworn}
-use Rattle.plan_write.proofs.laws.Own.{leaf-part, leaf-reach}
-use Rattle.plan_write.proofs.laws.Plans.{planned-leaf, planned-other}
+use Rattle.plan_write.specs.rewriting.{Unworn}
+use Rattle.plan_write.proofs.rewriting.Own.{leaf-part, leaf-reach}
+use Rattle.plan_write.proofs.rewriting.Plans.{planned-leaf, planned-other}
 
 -- a claim of each, of one that is there
 every-there : {A : Type 0} (Q : A → Type 0) (l : List A) → Every Q l → (x : A) → List·Memᴰ x l → Q x

@@ -12,7 +12,7 @@ use Rattle.meaning.specs.declared.Created.the-variants as created
 use Rattle.check_gate.specs.Gate.{Whole, gate}
 use Rattle.check_gate.specs.declared.Opened.{Opened}
 use Rattle.check_gate.specs.declared.Opened.the-variants.{Slots, Refused}
-use Rattle.check_gate.proofs.Laws.{gate-whole, gate-behind, gate-barred}
+use Rattle.check_gate.proofs.BehindTheGate.{gate-whole, gate-behind, gate-barred}
 use Rattle.check_blob.specs.declared.notes.Walked.{Walked}
 use Rattle.check_blob.specs.declared.notes.Walked.the-variants.{Fault, Fine}
 use Rattle.check_blob.specs.notes.{met}

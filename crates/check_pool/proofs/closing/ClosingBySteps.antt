@@ -16,7 +16,7 @@ use Rattle.meaning.specs.declared.Refusal.{Refusal}
 use Rattle.meaning.specs.declared.Checked.{Checked}
 use Rattle.meaning.specs.declared.Checked.the-variants.{Passed, Faulty}
 use Rattle.check_blob.specs.visit.{Sized}
-use Rattle.check_blob.proofs.visit.Laws.{slot-fits}
+use Rattle.check_blob.proofs.visit.VisitAsDefined.{slot-fits}
 
 -- where a slot's block and record lie
 pub in-pool : (e : Edition) (n : ℕ) (P R seen : List ℕ) (i : ℕ) → Sized e n P R seen → i < n → e .size * i + e .size ≤ length P

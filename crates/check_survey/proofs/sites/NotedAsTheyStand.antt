@@ -8,7 +8,7 @@ use Rattle.meaning.specs.declared.Edition.{Edition}
 use Rattle.meaning.specs.Lists.{part, number, joined, fours}
 use Rattle.meaning.specs.Bytes.{block, heightOf, countOf, childrenOf}
 use Rattle.meaning.specs.Tree.{slotOf, leaves}
-use Rattle.check_blob.proofs.notes.Laws.{fours-first}
+use Rattle.check_blob.proofs.notes.WalkAsDefined.{fours-first}
 use Rattle.laws_resize.specs.growth.Sites.{Site, counting, sites, sitesOf}
 use Rattle.check_survey.specs.sites.Spelt.{treeAt, blobAt, treeSites, rowSites, treeLeaves, rowLeaves}
 use Rattle.check_survey.specs.sites.Marks.{puts, tall, begin, Marked}

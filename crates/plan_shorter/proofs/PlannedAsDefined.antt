@@ -31,9 +31,9 @@ use Rattle.laws_resize.proofs.rising.Roots.{shorter-is, same-shorter}
 use Rattle.check_survey.specs.sites.Spelt.{blobAt, siteAt}
 use Rattle.check_survey.specs.sites.Known.{Known}
 use Rattle.plan_slot.specs.change.Turns.{over}
-use Rattle.plan_slot.proofs.change.Laws.{changes-over, over-same}
+use Rattle.plan_slot.proofs.change.SlotLoop.{changes-over, over-same}
 use Rattle.plan_slot.specs.renewal.{renewal}
-use Rattle.plan_slot.proofs.renewal.Laws.{renewal-same}
+use Rattle.plan_slot.proofs.renewal.DrawnIsChanged.{renewal-same}
 use Rattle.plan_tree.specs.declared.cuts.Cut.{Cut}
 use Rattle.plan_tree.specs.cuts.{Cuts}
 use Rattle.plan_shorter.specs.Plans.{cutPlan, rootEnd, oldEnd}

@@ -22,7 +22,7 @@ use Rattle.plan_slot.specs.declared.turn.Turn.{Turn}
 use Rattle.plan_slot.specs.declared.turn.Turn.the-variants.{Stays, Renews}
 use Rattle.plan_slot.specs.turn.{turned, Rises}
 use Rattle.plan_slot.specs.renewal.{renewal}
-use Rattle.plan_slot.proofs.renewal.Laws.{renewal-turned, renewal-rises}
+use Rattle.plan_slot.proofs.renewal.DrawnIsChanged.{renewal-turned, renewal-rises}
 use Rattle.plan_longer.specs.declared.fresh.Growth.{Growth}
 use Rattle.plan_longer.specs.declared.towers.Tower.{Tower}
 use Rattle.plan_longer.specs.enlarged.{Spot, Redraws, rootEnd, oldEnd}

@@ -12,7 +12,7 @@ use lib.ListN.{length, getD, set, take, drop, take-append-drop, replicate, lengt
 use lib.Seq.{getD-set-same, getD-set-other}
 use Rattle.meaning.specs.Lists.{pick, range, filter}
 use Rattle.laws.proofs.Inversions.{by-test}
-use Rattle.laws_resize.proofs.resizing.Slots.{times, times-append, times-cons}
+use Rattle.laws_resize.proofs.resizing.SlotCounts.{times, times-append, times-cons}
 
 -- in no list, never
 pub times-none : (s : ℕ) → times s [] ≡ 0

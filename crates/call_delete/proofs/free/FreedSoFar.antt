@@ -13,10 +13,10 @@ use Rattle.meaning.specs.declared.Edition.{Edition}
 use Rattle.laws.proofs.Inversions.{by-test}
 use Rattle.laws.proofs.Codec.{record-length}
 use Rattle.check_gate.specs.Gate.{Whole}
-use Rattle.check_blob.proofs.visit.Laws.{slot-fits}
+use Rattle.check_blob.proofs.visit.VisitAsDefined.{slot-fits}
 use Rattle.plan_slot.specs.change.Places.{Places}
 use Rattle.plan_slot.specs.change.Turns.{Turning}
-use Rattle.plan_slot.proofs.change.Laws.{record-left, turning-on}
+use Rattle.plan_slot.proofs.change.SlotLoop.{record-left, turning-on}
 use Rattle.call_delete.specs.free.{clearPlan}
 
 -- one slot

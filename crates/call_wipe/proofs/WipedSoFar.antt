@@ -19,7 +19,7 @@ use Rattle.meaning.specs.declared.Refusal.{Refusal}
 use Rattle.meaning.specs.declared.Finished.the-variants as finished
 use Rattle.laws.proofs.Codec.{record-length}
 use Rattle.laws.proofs.Building.{take-pasted-to}
-use Rattle.check_gate.proofs.Laws.{sized-whole}
+use Rattle.check_gate.proofs.BehindTheGate.{sized-whole}
 
 free-more : (i : ℕ) → freeRecords (i + 1) ≡ freeRecords i ++ recordOf 0 0
 unfolding freeRecords

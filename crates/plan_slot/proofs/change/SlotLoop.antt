@@ -14,7 +14,7 @@ use Rattle.meaning.specs.Tree.{Held}
 use Rattle.meaning.specs.declared.Edition.{Edition}
 use Rattle.laws.proofs.Parts.{pasted-length, drop-pasted}
 use Rattle.laws.proofs.Codec.{padded-length}
-use Rattle.check_blob.proofs.visit.Laws.{slot-fits}
+use Rattle.check_blob.proofs.visit.VisitAsDefined.{slot-fits}
 use Rattle.plan_slot.specs.change.Places.{Places}
 use Rattle.plan_slot.specs.change.Turns.{over, Turning}
 

@@ -11,7 +11,7 @@ use Rattle.meaning.specs.Bytes.{blockBytes, recordAt, recordOf, stateOf, record
 use Rattle.meaning.specs.Change.{put, puts, freed}
 use Rattle.meaning.specs.declared.Edition.{Edition}
 use Rattle.laws.proofs.Codec.{record-length}
-use Rattle.plan_slot.proofs.change.Laws.{built-length}
+use Rattle.plan_slot.proofs.change.SlotLoop.{built-length}
 use Rattle.plan_slot.specs.declared.turn.Turn.{Turn}
 use Rattle.plan_slot.specs.declared.turn.Turn.the-variants.{Stays, Goes, Takes, Renews}
 use Rattle.plan_slot.specs.turn.{stored, turned, Rises}

@@ -21,15 +21,15 @@ use Rattle.check_survey.specs.sites.Spelt.{blobAt}
 use Rattle.check_survey.specs.sites.Known.{Known}
 use Rattle.check_survey.proofs.sites.Knowing.{known-changing}
 use Rattle.check_survey.specs.worn.{wornAmong}
-use Rattle.check_survey.proofs.worn.Laws.{worn-refused, worn-passed}
-use Rattle.plan_write.specs.laws.{Unworn}
+use Rattle.check_survey.proofs.worn.WornByHeights.{worn-refused, worn-passed}
+use Rattle.plan_write.specs.rewriting.{Unworn}
 use Rattle.check_survey.specs.declared.Reached.{Reached}
 use Rattle.check_survey.specs.declared.Reached.the-variants as reached
 use Rattle.check_survey.specs.Reached.{front, Behind, Reaches}
-use Rattle.check_survey.proofs.Laws.{refused-so, reached-blob, reached-opened}
+use Rattle.check_survey.proofs.BehindTheSurvey.{refused-so, reached-blob, reached-opened}
 use Rattle.check_survey.specs.refusal.{writeBarred}
 use Rattle.call_write.specs.put.{writeNoted}
-use Rattle.plan_write.proofs.laws.Facts.{leaves-known, all-same}
+use Rattle.plan_write.proofs.rewriting.Facts.{leaves-known, all-same}
 
 -- a known blob of so many bytes: the call is what is noted of it
 module _ (e : Edition) (p : Proper e) (n : ℕ) (P R : List ℕ) (r len k : ℕ) (row hs fs : List ℕ) (g : Known e n P R r len k row hs fs)

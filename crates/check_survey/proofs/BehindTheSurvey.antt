@@ -17,7 +17,7 @@ use Rattle.meaning.specs.declared.Changed.the-variants as changed
 use Rattle.check_gate.specs.Gate.{gate}
 use Rattle.check_gate.specs.declared.Opened.{Opened}
 use Rattle.check_gate.specs.declared.Opened.the-variants.{Slots, Refused}
-use Rattle.check_gate.proofs.Laws.{gate-whole, gate-behind, gate-barred}
+use Rattle.check_gate.proofs.BehindTheGate.{gate-whole, gate-behind, gate-barred}
 use Rattle.check_blob.specs.declared.notes.Walked.{Walked}
 use Rattle.check_blob.specs.declared.notes.Walked.the-variants.{Fault, Fine}
 use Rattle.check_blob.proofs.Lending.{row-reaches, row-lent, flags-reach, flags-lent}

@@ -15,8 +15,8 @@ use Rattle.plan_longer.specs.declared.fresh.Growth.{Growth}
 use Rattle.plan_longer.specs.fresh.{Grows}
 use Rattle.plan_longer.specs.declared.towers.Tower.{Tower}
 use Rattle.plan_longer.specs.towers.{Towers}
-use Rattle.plan_longer.proofs.towers.Laws.{draws-as, new-leaves, blocks-is}
-use Rattle.plan_longer.proofs.risen.Laws.{newAt, freshAt, new-is}
+use Rattle.plan_longer.proofs.towers.RootDrawn.{draws-as, new-leaves, blocks-is}
+use Rattle.plan_longer.proofs.risen.RisenDrawn.{newAt, freshAt, new-is}
 
 -- the new blocks of a blob that gets longer
 module _ (e : Edition) (g : Growth) (t : Tower) (free row : List ℕ) (proper : Proper e) (grows : Grows e g) (towers : Towers e g t) where

@@ -19,13 +19,13 @@ use Rattle.meaning.specs.Answers.{changeAnswer, Ends}
 use Rattle.laws.proofs.Codec.{encoded-length, record-length}
 use Rattle.laws.proofs.Inversions.{by-test}
 use Rattle.check_gate.specs.Gate.{Whole}
-use Rattle.check_blob.proofs.visit.Laws.{slot-fits}
+use Rattle.check_blob.proofs.visit.VisitAsDefined.{slot-fits}
 use Rattle.plan_slot.specs.change.Turns.{over, Turning}
-use Rattle.plan_slot.proofs.change.Laws.{block-left, record-left, turning-on}
+use Rattle.plan_slot.proofs.change.SlotLoop.{block-left, record-left, turning-on}
 use Rattle.plan_write.specs.stretch.{planOf, stretched, leafCell, putBy, writePlan, Place, Writable}
-use Rattle.plan_write.specs.laws.{Unworn}
+use Rattle.plan_write.specs.rewriting.{Unworn}
 use Rattle.check_survey.specs.refusal.{writeBarred}
-use Rattle.check_survey.proofs.refusal.Laws.{write-fresh}
+use Rattle.check_survey.proofs.refusal.NumberByTests.{write-fresh}
 use Rattle.call_write.specs.put.{Leaves, writeNoted}
 
 -- the loop: what a slot becomes is planned from pool and records as they were

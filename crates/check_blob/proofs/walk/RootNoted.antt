@@ -11,7 +11,7 @@ use Rattle.meaning.specs.Walk.{Found, fault, fine, andThen, visit, fromRoot}
 use Rattle.meaning.specs.declared.Edition.{Edition}
 use Rattle.meaning.specs.declared.Role.the-variants.{Root}
 use Rattle.check_blob.specs.visit.{Sized, Within}
-use Rattle.check_blob.proofs.visit.Laws.{slot-fits}
+use Rattle.check_blob.proofs.visit.VisitAsDefined.{slot-fits}
 use Rattle.check_blob.specs.declared.notes.Walked.{Walked}
 use Rattle.check_blob.specs.notes.{met, mapFound, noteTree, noteBlob, note, noteRoot, Fresh, BlockStart}
 

@@ -23,9 +23,9 @@ use Rattle.check_survey.proofs.sites.Knowing.{known-changing}
 use Rattle.check_survey.specs.declared.Reached.{Reached}
 use Rattle.check_survey.specs.declared.Reached.the-variants as reached
 use Rattle.check_survey.specs.Reached.{front, Behind, Reaches}
-use Rattle.check_survey.proofs.Laws.{refused-so, reached-blob, reached-opened}
+use Rattle.check_survey.proofs.BehindTheSurvey.{refused-so, reached-blob, reached-opened}
 use Rattle.plan_slot.specs.change.Turns.{over}
-use Rattle.plan_slot.proofs.change.Laws.{changes-over, over-same}
+use Rattle.plan_slot.proofs.change.SlotLoop.{changes-over, over-same}
 use Rattle.call_delete.specs.free.{clearPlan}
 
 -- the definition's changes

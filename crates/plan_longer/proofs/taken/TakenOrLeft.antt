@@ -16,7 +16,7 @@ use Rattle.plan_slot.specs.declared.payload.Drawn.{Drawn}
 use Rattle.plan_slot.specs.payload.{Draws}
 use Rattle.plan_slot.specs.declared.turn.Turn.the-variants.{Stays, Takes}
 use Rattle.plan_slot.specs.turn.{turned, Rises}
-use Rattle.plan_slot.proofs.renewal.Laws.{taken-turned}
+use Rattle.plan_slot.proofs.renewal.DrawnIsChanged.{taken-turned}
 use Rattle.plan_longer.specs.declared.fresh.Growth.{Growth}
 use Rattle.plan_longer.specs.declared.towers.Tower.{Tower}
 use Rattle.plan_longer.specs.taken.{newEnd, freePlan}

@@ -24,14 +24,14 @@ use Rattle.meaning.specs.declared.Created.{Created}
 use Rattle.meaning.specs.declared.Created.the-variants as created
 use Rattle.laws.proofs.Inversions.{by-test, both-true}
 use Rattle.check_gate.specs.Gate.{Whole}
-use Rattle.check_blob.proofs.visit.Laws.{slot-fits}
+use Rattle.check_blob.proofs.visit.VisitAsDefined.{slot-fits}
 use Rattle.base_slot.specs.declared.usable.Free.{Free}
 use Rattle.base_slot.specs.declared.usable.Free.the-variants.{At, Nowhere}
 use Rattle.base_slot.specs.usable.{usableFrom, lowestOf}
-use Rattle.base_slot.proofs.usable.Laws.{usable-all}
+use Rattle.base_slot.proofs.usable.UsableInOrder.{usable-all}
 use Rattle.plan_slot.specs.change.Places.{Places}
 use Rattle.plan_slot.specs.change.Turns.{over}
-use Rattle.plan_slot.proofs.change.Laws.{changes-over}
+use Rattle.plan_slot.proofs.change.SlotLoop.{changes-over}
 
 le-but : (i s : ℕ) → i ≤ s → (i ≡ s → ⊥) → suc i ≤ s
 le-but i s a z = omega arith

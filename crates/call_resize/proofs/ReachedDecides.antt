@@ -15,7 +15,7 @@ use Rattle.call_resize.specs.fit.Found.{Found}
 use Rattle.check_survey.specs.declared.Reached.{Reached}
 use Rattle.check_survey.specs.declared.Reached.the-variants as reached
 use Rattle.check_survey.specs.Reached.{Rows, front, Behind, Reaches}
-use Rattle.check_survey.proofs.Laws.{refused-so, reached-blob, reached-opened}
+use Rattle.check_survey.proofs.BehindTheSurvey.{refused-so, reached-blob, reached-opened}
 
 module _ (e : Edition) (P R : List ℕ) (r : ℕ) (y : Reached) (row hs fs : List ℕ) (h : Reaches e P R r y row hs fs) where
   pub resize-refused : (q : Refusal) → y ≡ reached.Refused q → (len : ℕ) → Ends e changeAnswer (resizeCall e P R r len) P R (changed.Refused q) P R

@@ -14,7 +14,7 @@ use Rattle.meaning.specs.Answers.{leafAnswer}
 use Rattle.meaning.specs.declared.Edition.{Edition}
 use Rattle.meaning.specs.declared.Refusal.{Refusal}
 use Rattle.meaning.specs.declared.Leaf.the-variants as leaf
-use Rattle.check_blob.proofs.visit.Laws.{slot-fits}
+use Rattle.check_blob.proofs.visit.VisitAsDefined.{slot-fits}
 use Rattle.call_show.specs.place.{Below, Lies, showSpelt}
 
 -- a leaf in a row
