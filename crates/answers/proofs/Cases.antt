@@ -8,17 +8,17 @@ use Rattle.meaning.specs.declared.Named.{Named}
 use Rattle.meaning.specs.declared.Named.the-variants.{Nowhere, Slot}
 use Rattle.meaning.specs.declared.Refusal.{Refusal}
 use Rattle.meaning.specs.declared.Length.{Length}
-use Rattle.meaning.specs.declared.Length.the-variants as length
+use Rattle.meaning.specs.declared.Length.the-variants as lengthCase
 use Rattle.meaning.specs.declared.Audit.{Audit}
-use Rattle.meaning.specs.declared.Audit.the-variants as audit
+use Rattle.meaning.specs.declared.Audit.the-variants as auditCase
 use Rattle.meaning.specs.declared.Created.{Created}
-use Rattle.meaning.specs.declared.Created.the-variants as created
+use Rattle.meaning.specs.declared.Created.the-variants as createdCase
 use Rattle.meaning.specs.declared.Changed.{Changed}
-use Rattle.meaning.specs.declared.Changed.the-variants as changed
+use Rattle.meaning.specs.declared.Changed.the-variants as changedCase
 use Rattle.meaning.specs.declared.Finished.{Finished}
-use Rattle.meaning.specs.declared.Finished.the-variants as finished
+use Rattle.meaning.specs.declared.Finished.the-variants as finishedCase
 use Rattle.meaning.specs.declared.Leaf.{Leaf}
-use Rattle.meaning.specs.declared.Leaf.the-variants as leaf
+use Rattle.meaning.specs.declared.Leaf.the-variants as leafCase
 use Rattle.answers.specs.Numbers.{valueNumbers, refusalNumbers, numbers}
 
 -- a named slot as a number
@@ -42,55 +42,55 @@ put-refusal r s e = rw e
 -- each answer's numbers
 module _ (a : List ℕ) where
   module _ (x : Created) where
-    pub created-at : (s : ℕ) → x ≡ created.At s → a ≡ valueNumbers s 0 → a ≡ numbers (createdSaid x)
+    pub created-at : (s : ℕ) → x ≡ createdCase.At s → a ≡ valueNumbers s 0 → a ≡ numbers (createdSaid x)
     unfolding numbers createdSaid
     created-at s e ea = rw e ea
 
-    pub created-refused : (r : Refusal) → x ≡ created.Refused r → a ≡ refusalNumbers r → a ≡ numbers (createdSaid x)
+    pub created-refused : (r : Refusal) → x ≡ createdCase.Refused r → a ≡ refusalNumbers r → a ≡ numbers (createdSaid x)
     unfolding numbers createdSaid
     created-refused r e ea = rw e ea
 
   module _ (x : Changed) where
-    pub changed-done : x ≡ changed.Done → a ≡ valueNumbers 0 0 → a ≡ numbers (changedSaid x)
+    pub changed-done : x ≡ changedCase.Done → a ≡ valueNumbers 0 0 → a ≡ numbers (changedSaid x)
     unfolding numbers changedSaid
     changed-done e ea = rw e ea
 
-    pub changed-refused : (r : Refusal) → x ≡ changed.Refused r → a ≡ refusalNumbers r → a ≡ numbers (changedSaid x)
+    pub changed-refused : (r : Refusal) → x ≡ changedCase.Refused r → a ≡ refusalNumbers r → a ≡ numbers (changedSaid x)
     unfolding numbers changedSaid
     changed-refused r e ea = rw e ea
 
   module _ (x : Finished) where
-    pub finished-done : x ≡ finished.Done → a ≡ valueNumbers 0 0 → a ≡ numbers (finishedSaid x)
+    pub finished-done : x ≡ finishedCase.Done → a ≡ valueNumbers 0 0 → a ≡ numbers (finishedSaid x)
     unfolding numbers finishedSaid
     finished-done e ea = rw e ea
 
-    pub finished-refused : (r : Refusal) → x ≡ finished.Refused r → a ≡ refusalNumbers r → a ≡ numbers (finishedSaid x)
+    pub finished-refused : (r : Refusal) → x ≡ finishedCase.Refused r → a ≡ refusalNumbers r → a ≡ numbers (finishedSaid x)
     unfolding numbers finishedSaid
     finished-refused r e ea = rw e ea
 
   module _ (x : Length) where
-    pub length-is : (n : ℕ) → x ≡ length.Is n → a ≡ valueNumbers n 0 → a ≡ numbers (lengthSaid x)
+    pub length-is : (n : ℕ) → x ≡ lengthCase.Is n → a ≡ valueNumbers n 0 → a ≡ numbers (lengthSaid x)
     unfolding numbers lengthSaid
     length-is n e ea = rw e ea
 
-    pub length-refused : (r : Refusal) → x ≡ length.Refused r → a ≡ refusalNumbers r → a ≡ numbers (lengthSaid x)
+    pub length-refused : (r : Refusal) → x ≡ lengthCase.Refused r → a ≡ refusalNumbers r → a ≡ numbers (lengthSaid x)
     unfolding numbers lengthSaid
     length-refused r e ea = rw e ea
 
   module _ (x : Leaf) where
-    pub leaf-at : (start count : ℕ) → x ≡ leaf.At start count → a ≡ valueNumbers start count → a ≡ numbers (leafSaid x)
+    pub leaf-at : (start count : ℕ) → x ≡ leafCase.At start count → a ≡ valueNumbers start count → a ≡ numbers (leafSaid x)
     unfolding numbers leafSaid
     leaf-at start count e ea = rw e ea
 
-    pub leaf-refused : (r : Refusal) → x ≡ leaf.Refused r → a ≡ refusalNumbers r → a ≡ numbers (leafSaid x)
+    pub leaf-refused : (r : Refusal) → x ≡ leafCase.Refused r → a ≡ refusalNumbers r → a ≡ numbers (leafSaid x)
     unfolding numbers leafSaid
     leaf-refused r e ea = rw e ea
 
   module _ (x : Audit) where
-    pub audit-live : (n : ℕ) → x ≡ audit.Live n → a ≡ valueNumbers n 0 → a ≡ numbers (auditSaid x)
+    pub audit-live : (n : ℕ) → x ≡ auditCase.Live n → a ≡ valueNumbers n 0 → a ≡ numbers (auditSaid x)
     unfolding numbers auditSaid
     audit-live n e ea = rw e ea
 
-    pub audit-refused : (r : Refusal) → x ≡ audit.Refused r → a ≡ refusalNumbers r → a ≡ numbers (auditSaid x)
+    pub audit-refused : (r : Refusal) → x ≡ auditCase.Refused r → a ≡ refusalNumbers r → a ≡ numbers (auditSaid x)
     unfolding numbers auditSaid
     audit-refused r e ea = rw e ea

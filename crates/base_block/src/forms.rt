@@ -6,12 +6,12 @@ ghost use mathlib.Core.Path.{_≡_};
 ghost use Prim.Native.Nat.{_≤_};
 ghost use lib.ListN.{length};
 ghost use Rattle.meaning.specs.Edition.{Proper};
-ghost use Rattle.meaning.specs.Shape.{least, most};
+ghost use Rattle.meaning.specs.Shape.{leastCount, mostCount};
 ghost use Rattle.meaning.specs.Walk.{used, formed};
 
 // The fewest that a block may hold, by its height, on the right edge or off it, as root or not.
 fn least_of(e: Edition, h: usize, edge: bool, root: bool) -> usize
-    ensures { λ r. ⌜ r ≡ least e h edge root ⌝ }
+    ensures { λ r. ⌜ r ≡ leastCount e h edge root ⌝ }
 {
     if h == 0 {
         if edge {
@@ -30,7 +30,7 @@ fn least_of(e: Edition, h: usize, edge: bool, root: bool) -> usize
 
 // The most that a block may hold, by its height.
 fn most_of(e: Edition, h: usize) -> usize
-    ensures { λ r. ⌜ r ≡ most e h ⌝ }
+    ensures { λ r. ⌜ r ≡ mostCount e h ⌝ }
 {
     if h == 0 { e.leaf } else { e.fan }
 }
@@ -38,7 +38,7 @@ fn most_of(e: Edition, h: usize) -> usize
 // The bytes of the payload that a count within its range uses.
 fn used_of(e: Edition, h: usize, count: usize) -> usize
     requires { ⌜ Proper e ⌝ }
-    requires { ⌜ count ≤ most e h ⌝ }
+    requires { ⌜ count ≤ mostCount e h ⌝ }
     ensures { λ r. ⌜ (r ≡ used h count) × (r ≤ e .leaf) ⌝ }
 {
     if h == 0 { count } else { 4 * count }

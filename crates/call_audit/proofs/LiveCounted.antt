@@ -16,7 +16,7 @@ use Rattle.meaning.specs.Answers.{auditAnswer}
 use Rattle.meaning.specs.declared.Edition.{Edition}
 use Rattle.meaning.specs.declared.Refusal.{Refusal}
 use Rattle.meaning.specs.declared.Audit.{Audit}
-use Rattle.meaning.specs.declared.Audit.the-variants as audit
+use Rattle.meaning.specs.declared.Audit.the-variants as auditCase
 use Rattle.check_gate.specs.declared.Opened.{Opened}
 use Rattle.check_gate.specs.declared.Opened.the-variants.{Slots, Refused}
 use Rattle.check_gate.specs.Gate.{gate}
@@ -30,7 +30,7 @@ use Rattle.call_audit.specs.Counting.{liveFrom}
 
 -- refusals 1 and 2, or what is answered behind them
 module _ (e : Edition) (P R : List ℕ) (x : Opened) (ex : x ≡ gate e P R) where
-  pub audit-barred : (q : Refusal) → x ≡ Refused q → audit.Refused q ≡ auditAnswer (auditCall e P R)
+  pub audit-barred : (q : Refusal) → x ≡ Refused q → auditCase.Refused q ≡ auditAnswer (auditCall e P R)
   unfolding auditAnswer auditCall
   audit-barred q eq = sym (ap auditAnswer (gate-barred e P R x ex q eq (auditIn e (slotsIn e P) P R)))
 
@@ -40,11 +40,11 @@ module _ (e : Edition) (P R : List ℕ) (x : Opened) (ex : x ≡ gate e P R) whe
 
 -- the pool check: its fault, or the count
 module _ (e : Edition) (n : ℕ) (P R : List ℕ) (named : ℕ) (o : List ℕ) (w : Walked) (sx ox : List ℕ) (ew : met w sx ox ≡ poolNoted e n P R named o) where
-  pub audit-fault : (f : Refusal) → w ≡ Fault f → audit.Refused f ≡ auditAnswer (auditIn e n P R)
+  pub audit-fault : (f : Refusal) → w ≡ Fault f → auditCase.Refused f ≡ auditAnswer (auditIn e n P R)
   unfolding met poolNoted auditAnswer auditIn afterCheck
   audit-fault f ef = rw (noted-fault (noteNamed named (kept 0 0 o)) f (poolCheck e n P R) (rw ef at ew))
 
-  pub audit-live : (b k : ℕ) → w ≡ Fine b k → (m : ℕ) → m ≡ liveFrom R 0 n → audit.Live m ≡ auditAnswer (auditIn e n P R)
+  pub audit-live : (b k : ℕ) → w ≡ Fine b k → (m : ℕ) → m ≡ liveFrom R 0 n → auditCase.Live m ≡ auditAnswer (auditIn e n P R)
   unfolding met poolNoted auditAnswer auditIn afterCheck auditOn live liveFrom
   audit-live b k eb m em =
       let q = noted-fine (noteNamed named (kept 0 0 o)) (record { bytes = b; leaves = k; row = ox }) sx (poolCheck e n P R) (rw eb at ew) in

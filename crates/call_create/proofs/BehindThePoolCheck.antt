@@ -8,7 +8,7 @@ use Rattle.meaning.specs.Answers.{createAnswer, Ends}
 use Rattle.meaning.specs.declared.Edition.{Edition}
 use Rattle.meaning.specs.declared.Refusal.{Refusal}
 use Rattle.meaning.specs.declared.Created.{Created}
-use Rattle.meaning.specs.declared.Created.the-variants as created
+use Rattle.meaning.specs.declared.Created.the-variants as createdCase
 use Rattle.check_gate.specs.Gate.{Whole, gate}
 use Rattle.check_gate.specs.declared.Opened.{Opened}
 use Rattle.check_gate.specs.declared.Opened.the-variants.{Slots, Refused}
@@ -20,7 +20,7 @@ use Rattle.check_blob.proofs.notes.Answering.{noted-fault, noted-fine}
 use Rattle.check_pool.specs.roots.{noteNamed, kept, poolNoted}
 
 module _ (e : Edition) (P R : List ℕ) (x : Opened) (ex : x ≡ gate e P R) where
-  pub create-barred : (q : Refusal) → x ≡ Refused q → Ends e createAnswer (createCall e P R) P R (created.Refused q) P R
+  pub create-barred : (q : Refusal) → x ≡ Refused q → Ends e createAnswer (createCall e P R) P R (createdCase.Refused q) P R
   unfolding createCall createAnswer after
   create-barred q eq =
       let u = gate-barred e P R x ex q eq (createIn e (slotsIn e P) P R) in
@@ -37,7 +37,7 @@ module _ (e : Edition) (P R : List ℕ) (x : Opened) (ex : x ≡ gate e P R) whe
 
 -- the pool check
 module _ (e : Edition) (n : ℕ) (P R : List ℕ) (named : ℕ) (o : List ℕ) (w : Walked) (sx ox : List ℕ) (ew : met w sx ox ≡ poolNoted e n P R named o) where
-  pub create-fault : (f : Refusal) → w ≡ Fault f → Ends e createAnswer (createIn e n P R) P R (created.Refused f) P R
+  pub create-fault : (f : Refusal) → w ≡ Fault f → Ends e createAnswer (createIn e n P R) P R (createdCase.Refused f) P R
   unfolding met poolNoted createIn afterCheck createAnswer after
   create-fault f ef =
       let u = noted-fault (noteNamed named (kept 0 0 o)) f (poolCheck e n P R) (rw ef at ew) in

@@ -13,7 +13,7 @@ use Rattle.meaning.specs.Calls.{done, slotsIn, become, deleteOn, deleteIn, dele
 use Rattle.meaning.specs.Answers.{changeAnswer, Ends}
 use Rattle.meaning.specs.declared.Edition.{Edition}
 use Rattle.meaning.specs.declared.Refusal.{Refusal}
-use Rattle.meaning.specs.declared.Changed.the-variants as changed
+use Rattle.meaning.specs.declared.Changed.the-variants as changedCase
 use Rattle.laws.proofs.Inversions.{by-test}
 use Rattle.laws_resize.proofs.growth.Changes.{held-at, held-absent}
 use Rattle.check_gate.specs.Gate.{Whole}
@@ -48,13 +48,13 @@ module _ (e : Edition) (p : Proper e) (n : ℕ) (P R : List ℕ) (r len k : ℕ)
   outcome = known-changing e n P R r len k row hs fs g (deleteOn e n P R) ∙ ap (λ (cs : List Change). done tt cs) all-same
 
   ends : (P′ R′ : List ℕ) → P′ ≡ puts (e .size) (λ c. c .block) (over (clearPlan e R hs) 0 n) P → R′ ≡ puts 12 (λ c. c .line) (over (clearPlan e R hs) 0 n) R
-      → Ends e changeAnswer (deleteIn e n P R r) P R changed.Done P′ R′
+      → Ends e changeAnswer (deleteIn e n P R r) P R changedCase.Done P′ R′
   unfolding changeAnswer after changedBy
   ends P′ R′ ep er = record { answer = rw outcome; pool = ep ∙ rw outcome; records = er ∙ rw outcome }
 
 -- what is reached decides
 module _ (e : Edition) (P R : List ℕ) (r : ℕ) (y : Reached) (row hs fs : List ℕ) (h : Reaches e P R r y row hs fs) where
-  pub delete-refused : (q : Refusal) → y ≡ reached.Refused q → Ends e changeAnswer (deleteCall e P R r) P R (changed.Refused q) P R
+  pub delete-refused : (q : Refusal) → y ≡ reached.Refused q → Ends e changeAnswer (deleteCall e P R r) P R (changedCase.Refused q) P R
   unfolding deleteCall deleteIn
   delete-refused q eq = refused-so e P R r y row hs fs h q eq (deleteOn e (slotsIn e P) P R)
 
@@ -69,7 +69,7 @@ module _ (e : Edition) (P R : List ℕ) (r : ℕ) (y : Reached) (row hs fs : Lis
     delete-heights = here .known .heights
 
     pub delete-done : Proper e → (P′ R′ : List ℕ) → P′ ≡ puts (e .size) (λ c. c .block) (over (clearPlan e R (front n hs)) 0 n) P
-        → R′ ≡ puts 12 (λ c. c .line) (over (clearPlan e R (front n hs)) 0 n) R → Ends e changeAnswer (deleteCall e P R r) P R changed.Done P′ R′
+        → R′ ≡ puts 12 (λ c. c .line) (over (clearPlan e R (front n hs)) 0 n) R → Ends e changeAnswer (deleteCall e P R r) P R changedCase.Done P′ R′
     unfolding deleteCall
     delete-done p P′ R′ ep er =
         rw (reached-opened e P R r y row hs fs h n len k ey (λ m. deleteIn e m P R r))

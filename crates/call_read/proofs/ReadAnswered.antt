@@ -15,7 +15,7 @@ use Rattle.meaning.specs.Answers.{finishAnswer, readOut, Reads}
 use Rattle.meaning.specs.declared.Edition.{Edition}
 use Rattle.meaning.specs.declared.Refusal.{Refusal}
 use Rattle.meaning.specs.declared.Finished.{Finished}
-use Rattle.meaning.specs.declared.Finished.the-variants as finished
+use Rattle.meaning.specs.declared.Finished.the-variants as finishedCase
 use Rattle.check_gate.specs.declared.Opened.{Opened}
 use Rattle.check_gate.specs.declared.Opened.the-variants.{Slots, Refused}
 use Rattle.check_gate.specs.Gate.{gate, Whole}
@@ -30,7 +30,7 @@ use Rattle.call_read.proofs.Spelt.{row-bytes, row-readable, read-spelt}
 
 -- refusals 1 and 2, or what is answered behind them
 module _ (e : Edition) (P R : List ℕ) (x : Opened) (ex : x ≡ gate e P R) (r offset size : ℕ) where
-  pub read-barred : (q : Refusal) → x ≡ Refused q → (out : List ℕ) → Reads (readCall e P R r offset size) (finished.Refused q) out out
+  pub read-barred : (q : Refusal) → x ≡ Refused q → (out : List ℕ) → Reads (readCall e P R r offset size) (finishedCase.Refused q) out out
   unfolding finishAnswer readOut readCall
   read-barred q eq out =
       let u = gate-barred e P R x ex q eq (readIn e (slotsIn e P) P R r offset size) in
@@ -45,7 +45,7 @@ module _ (e : Edition) (P R : List ℕ) (x : Opened) (ex : x ≡ gate e P R) (r 
 -- refusal 3 and the blob check: the refusal, or the read of what the row spells
 module _ (e : Edition) (n : ℕ) (P R : List ℕ) (r : ℕ) (o : List ℕ) (w : Walked) (sx ox : List ℕ) (ew : met w sx ox ≡ openNoted e n P R r o) where
   module _ (f : Refusal) (ef : w ≡ Fault f) where
-    pub read-refused : (offset size : ℕ) (out : List ℕ) → Reads (readIn e n P R r offset size) (finished.Refused f) out out
+    pub read-refused : (offset size : ℕ) (out : List ℕ) → Reads (readIn e n P R r offset size) (finishedCase.Refused f) out out
     unfolding finishAnswer readOut readIn
     read-refused offset size out =
         let u = open-fault e n P R r o w sx ox ew f ef (readOn e n P R offset size) in
@@ -73,19 +73,19 @@ module _ (e : Edition) (n : ℕ) (P R : List ℕ) (r : ℕ) (o : List ℕ) (w : 
 
 -- refusal 10 of a read
 module _ (offset size : ℕ) (c out : List ℕ) (b : ℕ) (eb : b ≡ length c) where
-  past : b < offset + size → (q : Refusal) → q ≡ nowhere 10 → Reads (readSpelt offset size c) (finished.Refused q) out out
+  past : b < offset + size → (q : Refusal) → q ≡ nowhere 10 → Reads (readSpelt offset size c) (finishedCase.Refused q) out out
   unfolding readSpelt refuseIf finishAnswer readOut
   past l q eq =
       let t : ltb (length c) (offset + size) ≡ true = lt-ltb (length c) (offset + size) (omega arith) in
       record { answer = rw (eq, t); output = rw t }
 
-  pub read-before : b < offset → (q : Refusal) → q ≡ nowhere 10 → Reads (readSpelt offset size c) (finished.Refused q) out out
+  pub read-before : b < offset → (q : Refusal) → q ≡ nowhere 10 → Reads (readSpelt offset size c) (finishedCase.Refused q) out out
   read-before l q eq = past (omega arith) q eq
 
-  pub read-past : offset ≤ b → b - offset < size → (q : Refusal) → q ≡ nowhere 10 → Reads (readSpelt offset size c) (finished.Refused q) out out
+  pub read-past : offset ≤ b → b - offset < size → (q : Refusal) → q ≡ nowhere 10 → Reads (readSpelt offset size c) (finishedCase.Refused q) out out
   read-past l m q eq = past (omega arith) q eq
 
-  pub read-within : offset ≤ b → size ≤ b - offset → (out′ : List ℕ) → out′ ≡ part offset size c → Reads (readSpelt offset size c) finished.Done out out′
+  pub read-within : offset ≤ b → size ≤ b - offset → (out′ : List ℕ) → out′ ≡ part offset size c → Reads (readSpelt offset size c) finishedCase.Done out out′
   unfolding readSpelt refuseIf finishAnswer readOut
   read-within l m out′ eo =
       let t : ltb (length c) (offset + size) ≡ false = le-ltb (length c) (offset + size) (omega arith) in

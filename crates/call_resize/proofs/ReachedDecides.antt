@@ -8,7 +8,7 @@ use Rattle.meaning.specs.Answers.{changeAnswer, Ends}
 use Rattle.meaning.specs.declared.Edition.{Edition}
 use Rattle.meaning.specs.declared.Refusal.{Refusal}
 use Rattle.meaning.specs.declared.Changed.{Changed}
-use Rattle.meaning.specs.declared.Changed.the-variants as changed
+use Rattle.meaning.specs.declared.Changed.the-variants as changedCase
 use Rattle.check_gate.specs.Gate.{Whole, gate}
 use Rattle.check_blob.proofs.Lending.{row-lent}
 use Rattle.call_resize.specs.fit.Found.{Found}
@@ -18,7 +18,7 @@ use Rattle.check_survey.specs.Reached.{Rows, front, Behind, Reaches}
 use Rattle.check_survey.proofs.BehindTheSurvey.{refused-so, reached-blob, reached-opened}
 
 module _ (e : Edition) (P R : List ℕ) (r : ℕ) (y : Reached) (row hs fs : List ℕ) (h : Reaches e P R r y row hs fs) where
-  pub resize-refused : (q : Refusal) → y ≡ reached.Refused q → (len : ℕ) → Ends e changeAnswer (resizeCall e P R r len) P R (changed.Refused q) P R
+  pub resize-refused : (q : Refusal) → y ≡ reached.Refused q → (len : ℕ) → Ends e changeAnswer (resizeCall e P R r len) P R (changedCase.Refused q) P R
   unfolding resizeCall resizeIn
   resize-refused q eq len = refused-so e P R r y row hs fs h q eq (resizeOn e (slotsIn e P) P R len)
 

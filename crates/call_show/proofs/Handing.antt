@@ -12,12 +12,12 @@ use Rattle.meaning.specs.Answers.{leafAnswer, shownPart, shownNumber, shownSlot
 use Rattle.meaning.specs.declared.Edition.{Edition}
 use Rattle.meaning.specs.declared.Refusal.{Refusal}
 use Rattle.meaning.specs.declared.Leaf.{Leaf}
-use Rattle.meaning.specs.declared.Leaf.the-variants as leaf
+use Rattle.meaning.specs.declared.Leaf.the-variants as leafCase
 use Rattle.laws.proofs.Parts.{lent-part}
 use Rattle.call_show.specs.place.{Lies}
 
 -- an outcome, from the place that the leaf's answer gives
-placed-part : (e : Edition) (P : List ℕ) (o : Outcome (ℕ × ℕ)) (a c : ℕ) → leaf.At a c ≡ leafAnswer e o → take (a + c - a) (drop a P) ≡ shownPart e P o
+placed-part : (e : Edition) (P : List ℕ) (o : Outcome (ℕ × ℕ)) (a c : ℕ) → leafCase.At a c ≡ leafAnswer e o → take (a + c - a) (drop a P) ≡ shownPart e P o
 unfolding leafAnswer shownPart
 placed-part e P (refused q) a c h = absurd (let z : _≡_ {A = ℕ} 0 1 = cc in omega arith)
 placed-part e P (done v cs) a c h =
@@ -25,24 +25,24 @@ placed-part e P (done v cs) a c h =
     let q : c ≡ v .1 = cc in
     lent-part a c P ∙ rw (p, q)
 
-placed-number : (e : Edition) (o : Outcome (ℕ × ℕ)) (a c : ℕ) → leaf.At a c ≡ leafAnswer e o → 0 ≡ shownNumber o
+placed-number : (e : Edition) (o : Outcome (ℕ × ℕ)) (a c : ℕ) → leafCase.At a c ≡ leafAnswer e o → 0 ≡ shownNumber o
 unfolding leafAnswer shownNumber
 placed-number e (refused q) a c h = absurd (let z : _≡_ {A = ℕ} 0 1 = cc in omega arith)
 placed-number e (done v cs) a c h = refl
 
-placed-slot : (e : Edition) (o : Outcome (ℕ × ℕ)) (a c : ℕ) → leaf.At a c ≡ leafAnswer e o → 0xFFFF_FFFF_FFFF_FFFF ≡ shownSlot o
+placed-slot : (e : Edition) (o : Outcome (ℕ × ℕ)) (a c : ℕ) → leafCase.At a c ≡ leafAnswer e o → 0xFFFF_FFFF_FFFF_FFFF ≡ shownSlot o
 unfolding leafAnswer shownSlot slotNumber
 placed-slot e (refused q) a c h = absurd (let z : _≡_ {A = ℕ} 0 1 = cc in omega arith)
 placed-slot e (done v cs) a c h = refl
 
-refused-place : (e : Edition) (o : Outcome (ℕ × ℕ)) (q : Refusal) → leaf.Refused q ≡ leafAnswer e o → o ≡ refused q
+refused-place : (e : Edition) (o : Outcome (ℕ × ℕ)) (q : Refusal) → leafCase.Refused q ≡ leafAnswer e o → o ≡ refused q
 unfolding leafAnswer
 refused-place e (refused r) q h = cc
 refused-place e (done v cs) q h = absurd (let z : _≡_ {A = ℕ} 0 1 = cc in omega arith)
 
 -- what a leaf's place says of show's part and numbers
 module _ (e : Edition) (P : List ℕ) (o : Outcome (ℕ × ℕ)) (x : Leaf) (ex : x ≡ leafAnswer e o) where
-  module _ (a c : ℕ) (ea : x ≡ leaf.At a c) where
+  module _ (a c : ℕ) (ea : x ≡ leafCase.At a c) where
     pub shown-part : take (a + c - a) (drop a P) ≡ shownPart e P o
     shown-part = placed-part e P o a c (sym ea ∙ ex)
 
@@ -52,7 +52,7 @@ module _ (e : Edition) (P : List ℕ) (o : Outcome (ℕ × ℕ)) (x : Leaf) (ex 
     pub shown-nowhere : 0xFFFF_FFFF_FFFF_FFFF ≡ shownSlot o
     shown-nowhere = placed-slot e o a c (sym ea ∙ ex)
 
-  module _ (q : Refusal) (eq : x ≡ leaf.Refused q) where
+  module _ (q : Refusal) (eq : x ≡ leafCase.Refused q) where
     was-refused : o ≡ refused q
     was-refused = refused-place e o q (sym eq ∙ ex)
 
@@ -69,9 +69,9 @@ module _ (e : Edition) (P : List ℕ) (o : Outcome (ℕ × ℕ)) (x : Leaf) (ex 
     shown-slot s es = es ∙ rw was-refused
 
 -- a place that is found lies in the pool
-pub placed-within : (x : Leaf) (a c n : ℕ) → Lies x n → x ≡ leaf.At a c → a + c ≤ n
+pub placed-within : (x : Leaf) (a c n : ℕ) → Lies x n → x ≡ leafCase.At a c → a + c ≤ n
 unfolding Lies
 placed-within x a c n h ex = rw ex at h
 
-pub placed-fits : (x : Leaf) (a c n : ℕ) → Lies x n → x ≡ leaf.At a c → n < 2 ^ 64 → Fits w64 (a + c)
+pub placed-fits : (x : Leaf) (a c n : ℕ) → Lies x n → x ≡ leafCase.At a c → n < 2 ^ 64 → Fits w64 (a + c)
 placed-fits x a c n h ex l = record { fits = omega (arith, placed-within x a c n h ex) }

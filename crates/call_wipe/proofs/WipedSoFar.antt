@@ -16,7 +16,7 @@ use Rattle.meaning.specs.Calls.{refuseIf, slotsIn, sized, wipeCall, freeRecords
 use Rattle.meaning.specs.Answers.{finishAnswer, Wipes}
 use Rattle.meaning.specs.declared.Edition.{Edition}
 use Rattle.meaning.specs.declared.Refusal.{Refusal}
-use Rattle.meaning.specs.declared.Finished.the-variants as finished
+use Rattle.meaning.specs.declared.Finished.the-variants as finishedCase
 use Rattle.laws.proofs.Codec.{record-length}
 use Rattle.laws.proofs.Building.{take-pasted-to}
 use Rattle.check_gate.proofs.BehindTheGate.{sized-whole}
@@ -55,7 +55,7 @@ free-start R = refl
 
 -- the lengths decide
 module _ (e : Edition) (P R : List ℕ) (s : Bool) (es : s ≡ sized e P R) where
-  pub wipe-lengths : not s ≡ true → (q : Refusal) → q ≡ nowhere 1 → Wipes e P R (finished.Refused q) P R
+  pub wipe-lengths : not s ≡ true → (q : Refusal) → q ≡ nowhere 1 → Wipes e P R (finishedCase.Refused q) P R
   unfolding wipeCall refuseIf finishAnswer afterWipe pick
   wipe-lengths t q eq =
       record { answer = rw eq (simp (← es, t)); pool = simp (← es, not-true s t); records = simp (← es, not-true s t) }
@@ -64,7 +64,7 @@ module _ (e : Edition) (P R : List ℕ) (s : Bool) (es : s ≡ sized e P R) wher
   unfolding slotsIn
   wipe-records t = sized-whole e P R (sym es ∙ not-false s t) .records
 
-  pub wipe-done : not s ≡ false → (P′ R′ : List ℕ) → P′ ≡ replicate (length P) 0 → R′ ≡ freeRecords (length P / e .size) → Wipes e P R finished.Done P′ R′
+  pub wipe-done : not s ≡ false → (P′ R′ : List ℕ) → P′ ≡ replicate (length P) 0 → R′ ≡ freeRecords (length P / e .size) → Wipes e P R finishedCase.Done P′ R′
   unfolding wipeCall refuseIf finishAnswer afterWipe wiped pick slotsIn
   wipe-done t P′ R′ ep er =
       let w : length P ≡ e .size * (length P / e .size) = sized-whole e P R (sym es ∙ not-false s t) .pool in

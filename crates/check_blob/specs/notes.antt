@@ -7,7 +7,7 @@ use lib.Dec.{eqb}
 use lib.ListN.{length, set}
 use Rattle.meaning.specs.Lists.{both, joined}
 use Rattle.meaning.specs.Tree.{Tree, Blob, content, leaves}
-use Rattle.meaning.specs.Walk.{Found, fault, fine, row, visit, fromRoot}
+use Rattle.meaning.specs.Walk.{Found, fault, fine, visitRow, visit, fromRoot}
 use Rattle.meaning.specs.declared.Edition.{Edition}
 use Rattle.meaning.specs.declared.Role.{Role}
 use Rattle.meaning.specs.declared.Role.the-variants.{Root, Child}
@@ -56,7 +56,7 @@ module _ (e : Edition) (N : ℕ) (P R : List ℕ) where
   note h role edge seen s b k o = mapFound (noteTree h b k o) (visit e N P R h role edge seen s)
 
   unfoldable pub notes : (w p : ℕ) → (edge : Bool) → (cs seen : List ℕ) → (b k : ℕ) → (o : List ℕ) → Found Noted
-  notes w p edge cs seen b k o = mapFound (noteRow w b k o) (row e N P R (visit e N P R w) p edge cs seen)
+  notes w p edge cs seen b k o = mapFound (noteRow w b k o) (visitRow e N P R (visit e N P R w) p edge cs seen)
 
   unfoldable pub noteRoot : (seen : List ℕ) → (s : ℕ) → (o : List ℕ) → Found Noted
   noteRoot seen s o = mapFound (noteBlob o) (fromRoot e N P R seen s)

@@ -13,7 +13,7 @@ use Rattle.meaning.specs.Calls.{Outcome, refused, changing, slotsIn, opened, af
 use Rattle.meaning.specs.Answers.{changeAnswer, Ends}
 use Rattle.meaning.specs.declared.Edition.{Edition}
 use Rattle.meaning.specs.declared.Refusal.{Refusal}
-use Rattle.meaning.specs.declared.Changed.the-variants as changed
+use Rattle.meaning.specs.declared.Changed.the-variants as changedCase
 use Rattle.check_gate.specs.Gate.{gate}
 use Rattle.check_gate.specs.declared.Opened.{Opened}
 use Rattle.check_gate.specs.declared.Opened.the-variants.{Slots, Refused}
@@ -87,7 +87,7 @@ module _ (e : Edition) (P R : List ℕ) (x : Opened) (ex : x ≡ gate e P R) (r 
 module _ (e : Edition) (P R : List ℕ) (r : ℕ) (y : Reached) (row hs fs : List ℕ) (h : Reaches e P R r y row hs fs) where
   -- a refusal, of any call, with nothing changed
   pub refused-so : (q : Refusal) → y ≡ reached.Refused q → (f : Blob → Outcome (Unit {0}))
-      → Ends e changeAnswer (opened e P R (changing e (slotsIn e P) P R r f)) P R (changed.Refused q) P R
+      → Ends e changeAnswer (opened e P R (changing e (slotsIn e P) P R r f)) P R (changedCase.Refused q) P R
   unfolding Reaches changeAnswer after
   refused-so q eq f =
       let u : (g : Blob → Outcome (Unit {0})) → opened e P R (changing e (slotsIn e P) P R r g) ≡ refused q = rw eq at h in

@@ -13,7 +13,7 @@ use Rattle.meaning.specs.declared.Checked.the-variants.{Passed, Faulty}
 use Rattle.meaning.specs.Lists.{pick, both, part, number, sameList, zeros}
 use Rattle.meaning.specs.Edition.{Proper}
 use Rattle.meaning.specs.Bytes.{heightOf, countOf, ownSlot, versionOf, stateOf, recordedOf, soundRecord}
-use Rattle.meaning.specs.Shape.{least, most}
+use Rattle.meaning.specs.Shape.{leastCount, mostCount}
 use Rattle.meaning.specs.Refusals.{at, must}
 use Rattle.laws.proofs.Numbers.{part-front}
 use Rattle.meaning.specs.Walk.{flaw, used, formed, blockCheck}
@@ -57,39 +57,39 @@ module _ (e : Edition) (p : Proper e) (b : List ℕ) (v s : ℕ) (m : Bool)
 
 -- the four ranges and the used payload, by height
 module _ (e : Edition) (edge root : Bool) where
-  pub least-leaf-root : (h : ℕ) → h ≡ 0 → edge ≡ true → root ≡ true → 0 ≡ least e h edge root
-  unfolding least pick
+  pub least-leaf-root : (h : ℕ) → h ≡ 0 → edge ≡ true → root ≡ true → 0 ≡ leastCount e h edge root
+  unfolding leastCount pick
   least-leaf-root h a b c = rw (a, b, c)
 
-  pub least-leaf-edge : (h : ℕ) → h ≡ 0 → edge ≡ true → root ≡ false → 1 ≡ least e h edge root
-  unfolding least pick
+  pub least-leaf-edge : (h : ℕ) → h ≡ 0 → edge ≡ true → root ≡ false → 1 ≡ leastCount e h edge root
+  unfolding leastCount pick
   least-leaf-edge h a b c = rw (a, b, c)
 
-  pub least-leaf-off : (h : ℕ) → h ≡ 0 → edge ≡ false → e .leaf ≡ least e h edge root
-  unfolding least pick
+  pub least-leaf-off : (h : ℕ) → h ≡ 0 → edge ≡ false → e .leaf ≡ leastCount e h edge root
+  unfolding leastCount pick
   least-leaf-off h a b = rw (a, b)
 
-  pub least-inner-root : (h : ℕ) → (h ≡ 0 → ⊥) → edge ≡ true → root ≡ true → 2 ≡ least e h edge root
-  unfolding least pick
+  pub least-inner-root : (h : ℕ) → (h ≡ 0 → ⊥) → edge ≡ true → root ≡ true → 2 ≡ leastCount e h edge root
+  unfolding leastCount pick
   least-inner-root zero a b c = absurd (a refl)
   least-inner-root (suc h) a b c = rw (b, c)
 
-  pub least-inner-edge : (h : ℕ) → (h ≡ 0 → ⊥) → edge ≡ true → root ≡ false → 1 ≡ least e h edge root
-  unfolding least pick
+  pub least-inner-edge : (h : ℕ) → (h ≡ 0 → ⊥) → edge ≡ true → root ≡ false → 1 ≡ leastCount e h edge root
+  unfolding leastCount pick
   least-inner-edge zero a b c = absurd (a refl)
   least-inner-edge (suc h) a b c = rw (b, c)
 
-  pub least-inner-off : (h : ℕ) → (h ≡ 0 → ⊥) → edge ≡ false → e .fan ≡ least e h edge root
-  unfolding least pick
+  pub least-inner-off : (h : ℕ) → (h ≡ 0 → ⊥) → edge ≡ false → e .fan ≡ leastCount e h edge root
+  unfolding leastCount pick
   least-inner-off zero a b = absurd (a refl)
   least-inner-off (suc h) a b = rw b
 
-pub most-leaf : (e : Edition) (h : ℕ) → h ≡ 0 → e .leaf ≡ most e h
-unfolding most
+pub most-leaf : (e : Edition) (h : ℕ) → h ≡ 0 → e .leaf ≡ mostCount e h
+unfolding mostCount
 most-leaf e h z = rw z
 
-pub most-inner : (e : Edition) (h : ℕ) → (h ≡ 0 → ⊥) → e .fan ≡ most e h
-unfolding most
+pub most-inner : (e : Edition) (h : ℕ) → (h ≡ 0 → ⊥) → e .fan ≡ mostCount e h
+unfolding mostCount
 most-inner e zero n = absurd (n refl)
 most-inner e (suc h) n = refl
 
@@ -103,19 +103,19 @@ used-inner zero c n = absurd (n refl)
 used-inner (suc h) c n = refl
 
 -- what a count within its range uses lies in the payload
-pub used-fits : (e : Edition) → Proper e → (h c : ℕ) → c ≤ most e h → used h c ≤ e .leaf
-unfolding used most
+pub used-fits : (e : Edition) → Proper e → (h c : ℕ) → c ≤ mostCount e h → used h c ≤ e .leaf
+unfolding used mostCount
 used-fits e p zero c k = k
 used-fits e p (suc h) c k = omega (arith, p .fills)
 
 -- the same, as the code has it
-pub leaf-fits : (e : Edition) → Proper e → (h c : ℕ) → h ≡ 0 → c ≤ most e h → c ≤ e .leaf
+pub leaf-fits : (e : Edition) → Proper e → (h c : ℕ) → h ≡ 0 → c ≤ mostCount e h → c ≤ e .leaf
 leaf-fits e p h c z k = omega (arith, used-leaf h c z, used-fits e p h c k)
 
-pub inner-fits : (e : Edition) → Proper e → (h c : ℕ) → (h ≡ 0 → ⊥) → c ≤ most e h → 4 * c ≤ e .leaf
+pub inner-fits : (e : Edition) → Proper e → (h c : ℕ) → (h ≡ 0 → ⊥) → c ≤ mostCount e h → 4 * c ≤ e .leaf
 inner-fits e p h c n k = omega (arith, used-inner h c n, used-fits e p h c k)
 
-pub inner-most : (e : Edition) (h c : ℕ) → (h ≡ 0 → ⊥) → c ≤ most e h → c ≤ e .fan
+pub inner-most : (e : Edition) (h c : ℕ) → (h ≡ 0 → ⊥) → c ≤ mostCount e h → c ≤ e .fan
 inner-most e h c n k = omega (arith, most-inner e h n)
 
 -- check 3, as far as the code has come
@@ -124,12 +124,12 @@ module _ (e : Edition) (b : List ℕ) (h : ℕ) (root edge : Bool) (f : ℕ) (ef
   unfolding formed both
   formed-height n = simp (← ef, ne-eqb f h n)
 
-  module _ (q : f ≡ h) (c : ℕ) (ec : c ≡ countOf b) (l : ℕ) (el : l ≡ least e h edge root) where
+  module _ (q : f ≡ h) (c : ℕ) (ec : c ≡ countOf b) (l : ℕ) (el : l ≡ leastCount e h edge root) where
     pub formed-few : c < l → false ≡ formed e h root edge b
     unfolding formed both
     formed-few n = simp (← ef, eq-eqb f h q, ← ec, ← el, lt-leb l c n)
 
-    module _ (k : l ≤ c) (m : ℕ) (em : m ≡ most e h) where
+    module _ (k : l ≤ c) (m : ℕ) (em : m ≡ mostCount e h) where
       pub formed-many : m < c → false ≡ formed e h root edge b
       unfolding formed both
       formed-many n = simp (← ef, eq-eqb f h q, ← ec, ← el, le-leb l c k, ← em, lt-leb c m n)

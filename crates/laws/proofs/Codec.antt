@@ -12,9 +12,9 @@ use Rattle.meaning.specs.declared.Edition.{Edition}
 use Rattle.meaning.specs.declared.Checked.the-variants.{Passed, Faulty}
 use Rattle.meaning.specs.Lists.{pick, part, joined, number, bytes, padded, fours, zeros, sameList}
 use Rattle.meaning.specs.Edition.{Proper}
-use Rattle.meaning.specs.Bytes.{Cell, rowBytes, header, blockBytes, encoded, heightOf, countOf, ownSlot, versionOf, dataOf, childrenOf}
+use Rattle.meaning.specs.Bytes.{Cell, itemBytes, header, blockBytes, encoded, heightOf, countOf, ownSlot, versionOf, dataOf, childrenOf}
 use Rattle.meaning.specs.Bytes.{recordWith, recordOf, stateOf, recordedOf, recordAt, state, recorded, soundRecord}
-use Rattle.meaning.specs.Shape.{least, most}
+use Rattle.meaning.specs.Shape.{leastCount, mostCount}
 use Rattle.meaning.specs.Refusals.{at}
 use Rattle.meaning.specs.Walk.{flaw, used, blockCheck}
 use Rattle.laws.proofs.Numbers.{part-length, part-front, bytes-length, bytes-small, number-bytes, bytes-number}
@@ -57,19 +57,19 @@ fours-length [] = refl
 fours-length (x ∷ row) = simp (length-append, bytes-length) (omega (arith, fours-length row))
 
 -- a row's bytes are as many as its payload uses
-pub row-length : (h : ℕ) (row : List ℕ) → length (rowBytes h row) ≡ used h (length row)
-unfolding rowBytes used
+pub row-length : (h : ℕ) (row : List ℕ) → length (itemBytes h row) ≡ used h (length row)
+unfolding itemBytes used
 row-length zero row = refl
 row-length (suc h) row = fours-length row
 
 -- a leaf's row is written as it is
-pub row-leaf : (h : ℕ) (row : List ℕ) → h ≡ 0 → rowBytes h row ≡ row
-unfolding rowBytes
+pub row-leaf : (h : ℕ) (row : List ℕ) → h ≡ 0 → itemBytes h row ≡ row
+unfolding itemBytes
 row-leaf h row z = rw z
 
 -- an inner block's row is written as slot numbers of four bytes each
-pub row-inner : (h : ℕ) (row : List ℕ) → (h ≡ 0 → ⊥) → rowBytes h row ≡ joined (map (bytes 4) row)
-unfolding rowBytes
+pub row-inner : (h : ℕ) (row : List ℕ) → (h ≡ 0 → ⊥) → itemBytes h row ≡ joined (map (bytes 4) row)
+unfolding itemBytes
 row-inner zero row n = absurd (n refl)
 row-inner (suc h) row n = refl
 
@@ -136,23 +136,23 @@ fours-small [] i = omega arith
 fours-small (x ∷ row) i = append-small (bytes 4 x) (joined (map (bytes 4) row)) (bytes-small 4 x) (fours-small row) i
 
 -- a written block is bytes: mark, height, count and a leaf's data have to be
-pub encoded-small : (e : Edition) (c : Cell) (s v : ℕ) → ((i : ℕ) → getD (e .mark) i 0 < 256) → c .height < 256 → length (c .row) < 256
-    → (c .height ≡ 0 → (i : ℕ) → getD (c .row) i 0 < 256) → (i : ℕ) → getD (encoded e c s v) i 0 < 256
+pub encoded-small : (e : Edition) (c : Cell) (s v : ℕ) → ((i : ℕ) → getD (e .mark) i 0 < 256) → c .height < 256 → length (c .items) < 256
+    → (c .height ≡ 0 → (i : ℕ) → getD (c .items) i 0 < 256) → (i : ℕ) → getD (encoded e c s v) i 0 < 256
 unfolding encoded blockBytes header
 encoded-small e c s v mark high many leaf =
     padded-small (e .size) _
-    (append-small (header e (c .height) (length (c .row)) s v) (rowBytes (c .height) (c .row))
+    (append-small (header e (c .height) (length (c .items)) s v) (itemBytes (c .height) (c .items))
     (append-small (e .mark) _ mark (two (bytes 4 s ++ bytes 8 v) (append-small (bytes 4 s) (bytes 8 v) (bytes-small 4 s) (bytes-small 8 v))))
     (used-small (c .height) refl))
   where
-    two : (l : List ℕ) → ((i : ℕ) → getD l i 0 < 256) → (i : ℕ) → getD (c .height ∷ length (c .row) ∷ l) i 0 < 256
+    two : (l : List ℕ) → ((i : ℕ) → getD l i 0 < 256) → (i : ℕ) → getD (c .height ∷ length (c .items) ∷ l) i 0 < 256
     two l h zero = high
     two l h (suc zero) = many
     two l h (suc (suc i)) = h i
 
-    used-small : (h : ℕ) → c .height ≡ h → (i : ℕ) → getD (rowBytes (c .height) (c .row)) i 0 < 256
-    used-small zero q i = rw (row-leaf (c .height) (c .row) q) (leaf q i)
-    used-small (suc h) q i = rw (row-inner (c .height) (c .row) (omega arith)) (fours-small (c .row) i)
+    used-small : (h : ℕ) → c .height ≡ h → (i : ℕ) → getD (itemBytes (c .height) (c .items)) i 0 < 256
+    used-small zero q i = rw (row-leaf (c .height) (c .items) q) (leaf q i)
+    used-small (suc h) q i = rw (row-inner (c .height) (c .items) (omega arith)) (fours-small (c .items) i)
 
 -- what stands in a list of bytes that begins with a header
 record Fields (b m : List ℕ) (h n s v : ℕ) (rest : List ℕ) : Type 0 where
@@ -174,23 +174,23 @@ headed-fields (a ∷ b ∷ c ∷ m) h n s v rest e = absurd (omega arith)
 
 -- the zeros after a written row
 abbrev padding : Edition → Cell → List ℕ
-padding e c = replicate (e .size - (16 + length (rowBytes (c .height) (c .row)))) 0
+padding e c = replicate (e .size - (16 + length (itemBytes (c .height) (c .items)))) 0
 
 -- a block whose cell fits the payload
-module _ (e : Edition) (p : Proper e) (c : Cell) (s v : ℕ) (fits : length (rowBytes (c .height) (c .row)) ≤ e .leaf) where
+module _ (e : Edition) (p : Proper e) (c : Cell) (s v : ℕ) (fits : length (itemBytes (c .height) (c .items)) ≤ e .leaf) where
   -- its bytes: header, the row's bytes, zeros
-  pub encoded-bytes : encoded e c s v ≡ header e (c .height) (length (c .row)) s v ++ (rowBytes (c .height) (c .row) ++ padding e c)
+  pub encoded-bytes : encoded e c s v ≡ header e (c .height) (length (c .items)) s v ++ (itemBytes (c .height) (c .items) ++ padding e c)
   unfolding encoded blockBytes
   encoded-bytes =
-      let k = header-length e (c .height) (length (c .row)) s v (p .marked) in
-      let w : length (header e (c .height) (length (c .row)) s v ++ rowBytes (c .height) (c .row)) ≡ 16 + length (rowBytes (c .height) (c .row)) =
+      let k = header-length e (c .height) (length (c .items)) s v (p .marked) in
+      let w : length (header e (c .height) (length (c .items)) s v ++ itemBytes (c .height) (c .items)) ≡ 16 + length (itemBytes (c .height) (c .items)) =
       simp (length-append, k) in
       padded-fits (e .size) _ (rw w (omega (arith, p .fits))) ∙ rw (w, append-assoc)
 
   -- its fields
-  fields : Fields (encoded e c s v) (e .mark) (c .height) (length (c .row)) s v (rowBytes (c .height) (c .row) ++ padding e c)
+  fields : Fields (encoded e c s v) (e .mark) (c .height) (length (c .items)) s v (itemBytes (c .height) (c .items) ++ padding e c)
   unfolding header
-  fields = rw encoded-bytes (headed-fields (e .mark) (c .height) (length (c .row)) s v _ (p .marked))
+  fields = rw encoded-bytes (headed-fields (e .mark) (c .height) (length (c .items)) s v _ (p .marked))
 
   -- its mark is the edition's
   pub mark-read : take 2 (encoded e c s v) ≡ e .mark
@@ -202,7 +202,7 @@ module _ (e : Edition) (p : Proper e) (c : Cell) (s v : ℕ) (fits : length (row
   height-read = fields .height
 
   -- its count is read back
-  pub count-read : countOf (encoded e c s v) ≡ length (c .row)
+  pub count-read : countOf (encoded e c s v) ≡ length (c .items)
   unfolding countOf
   count-read = fields .count
 
@@ -217,41 +217,41 @@ module _ (e : Edition) (p : Proper e) (c : Cell) (s v : ℕ) (fits : length (row
   version-read h = ap number (fields .version) ∙ number-bytes 8 v h
 
   -- a leaf's data bytes are read back
-  pub data-read : c .height ≡ 0 → dataOf (encoded e c s v) ≡ c .row
+  pub data-read : c .height ≡ 0 → dataOf (encoded e c s v) ≡ c .items
   unfolding dataOf part
   data-read z =
-      ap₂ take count-read (fields .after ∙ ap (λ (l : List ℕ). l ++ padding e c) (row-leaf (c .height) (c .row) z))
-      ∙ take-append-seam (c .row) (padding e c)
+      ap₂ take count-read (fields .after ∙ ap (λ (l : List ℕ). l ++ padding e c) (row-leaf (c .height) (c .items) z))
+      ∙ take-append-seam (c .items) (padding e c)
 
   -- an inner block's child slots are read back
-  pub children-read : (c .height ≡ 0 → ⊥) → ((i : ℕ) → getD (c .row) i 0 < 2 ^ 32) → childrenOf (encoded e c s v) ≡ c .row
+  pub children-read : (c .height ≡ 0 → ⊥) → ((i : ℕ) → getD (c .items) i 0 < 2 ^ 32) → childrenOf (encoded e c s v) ≡ c .items
   unfolding childrenOf
   children-read n small =
-      ap₂ fours count-read (fields .after ∙ ap (λ (l : List ℕ). l ++ padding e c) (row-inner (c .height) (c .row) n))
-      ∙ fours-read (c .row) (padding e c) small
+      ap₂ fours count-read (fields .after ∙ ap (λ (l : List ℕ). l ++ padding e c) (row-inner (c .height) (c .items) n))
+      ∙ fours-read (c .items) (padding e c) small
 
   -- zeros follow the used payload
-  pub rest-read : zeros (drop (16 + used (c .height) (length (c .row))) (take (16 + e .leaf) (encoded e c s v))) ≡ true
+  pub rest-read : zeros (drop (16 + used (c .height) (length (c .items))) (take (16 + e .leaf) (encoded e c s v))) ≡ true
   unfolding part
   rest-read =
-      let u : ℕ = used (c .height) (length (c .row)) in
-      let k : length (rowBytes (c .height) (c .row)) ≡ u = row-length (c .height) (c .row) in
+      let u : ℕ = used (c .height) (length (c .items)) in
+      let k : length (itemBytes (c .height) (c .items)) ≡ u = row-length (c .height) (c .items) in
       let w : 16 + u + (e .leaf - u) ≡ 16 + e .leaf = omega arith in
       let i : 16 + u ≤ length (encoded e c s v) = rw encoded-length (omega (arith, p .fits)) in
       let d : drop (16 + u) (encoded e c s v) ≡ padding e c =
-      sym (drop-drop u 16 (encoded e c s v)) ∙ ap (drop u) (fields .after) ∙ drop-at (rowBytes (c .height) (c .row)) (padding e c) u k in
+      sym (drop-drop u 16 (encoded e c s v)) ∙ ap (drop u) (fields .after) ∙ drop-at (itemBytes (c .height) (c .items)) (padding e c) u k in
       let t : drop (16 + u) (take (16 + e .leaf) (encoded e c s v)) ≡ replicate (e .leaf - u) 0 =
       ap (λ (n : ℕ). drop (16 + u) (take n (encoded e c s v))) (sym w) ∙ part-front (16 + u) (e .leaf - u) (encoded e c s v) i
       ∙ ap (take (e .leaf - u)) d
-      ∙ take-zeros (e .leaf - u) (e .size - (16 + length (rowBytes (c .height) (c .row)))) (omega (arith, p .fits)) in
+      ∙ take-zeros (e .leaf - u) (e .size - (16 + length (itemBytes (c .height) (c .items)))) (omega (arith, p .fits)) in
       ap zeros t ∙ list-zeros (e .leaf - u)
 
 -- a written block passes checks 2 and 3
 pub written-passes : (e : Edition) → Proper e → (c : Cell) (h : ℕ) (root edge : Bool) (v s : ℕ) → c .height ≡ h
-    → least e h edge root ≤ length (c .row) → length (c .row) ≤ most e h → s < 2 ^ 32 → v < 2 ^ 64
+    → leastCount e h edge root ≤ length (c .items) → length (c .items) ≤ mostCount e h → s < 2 ^ 32 → v < 2 ^ 64
     → blockCheck e h root edge v s (encoded e c s v) ≡ Passed
 written-passes e p c h root edge v s eh lo hi hs hv =
-    let fits : length (rowBytes (c .height) (c .row)) ≤ e .leaf = rw (row-length (c .height) (c .row), eh) (used-fits e p h (length (c .row)) hi) in
+    let fits : length (itemBytes (c .height) (c .items)) ≤ e .leaf = rw (row-length (c .height) (c .items), eh) (used-fits e p h (length (c .items)) hi) in
     let n = count-read e p c s v fits in
     sound-passed e h root edge v s (encoded e c s v) (record {
       mark = rw (mark-read e p c s v fits) (same-self (e .mark));
@@ -270,19 +270,19 @@ rowOf (suc h) b = childrenOf b
 
 -- the cell that it gives
 unfoldable pub cellOf : (h : ℕ) → List ℕ → Cell
-cellOf h b = record { height = h; row = rowOf h b }
+cellOf h b = record { height = h; items = rowOf h b }
 
 -- a written cell is read back whole
-pub cell-read : (e : Edition) → Proper e → (c : Cell) (s v : ℕ) → length (rowBytes (c .height) (c .row)) ≤ e .leaf
-    → ((c .height ≡ 0 → ⊥) → (i : ℕ) → getD (c .row) i 0 < 2 ^ 32) → cellOf (c .height) (encoded e c s v) ≡ c
+pub cell-read : (e : Edition) → Proper e → (c : Cell) (s v : ℕ) → length (itemBytes (c .height) (c .items)) ≤ e .leaf
+    → ((c .height ≡ 0 → ⊥) → (i : ℕ) → getD (c .items) i 0 < 2 ^ 32) → cellOf (c .height) (encoded e c s v) ≡ c
 unfolding cellOf rowOf
-cell-read e p c s v fits small = λ i. record { height = c .height; row = row-read i }
+cell-read e p c s v fits small = λ i. record { height = c .height; items = row-read i }
   where
-    by-height : (h : ℕ) → c .height ≡ h → rowOf h (encoded e c s v) ≡ c .row
+    by-height : (h : ℕ) → c .height ≡ h → rowOf h (encoded e c s v) ≡ c .items
     by-height zero q = data-read e p c s v fits q
     by-height (suc h) q = children-read e p c s v fits (omega arith) (small (omega arith))
 
-    row-read : rowOf (c .height) (encoded e c s v) ≡ c .row
+    row-read : rowOf (c .height) (encoded e c s v) ≡ c .items
     row-read = by-height (c .height) refl
 
 -- past the first two bytes: the next two, then the rest
@@ -313,8 +313,8 @@ module _ (b : List ℕ) where
 
   -- is written as the bytes that it was read from
   pub row-written : (h : ℕ) → 16 + used h (countOf b) ≤ length b → ((i : ℕ) → getD b i 0 < 256)
-      → rowBytes h (rowOf h b) ≡ part 16 (used h (countOf b)) b
-  unfolding rowOf rowBytes used dataOf childrenOf part
+      → itemBytes h (rowOf h b) ≡ part 16 (used h (countOf b)) b
+  unfolding rowOf itemBytes used dataOf childrenOf part
   row-written zero k small = refl
   row-written (suc h) k small = fours-written (countOf b) (drop 16 b) (rw length-drop (omega arith)) (drop-small 16 b small)
 
@@ -327,12 +327,12 @@ passed-encoded e p whole h root edge v s b long small passed =
     let u : ℕ = used h (countOf b) in
     let i : u ≤ e .leaf = used-fits e p h (countOf b) (f .most) in
     let n : length (rowOf h b) ≡ countOf b = row-count b h (omega arith) in
-    let r : rowBytes h (rowOf h b) ≡ part 16 u b = row-written b h (omega arith) small in
-    let k : length (rowBytes h (rowOf h b)) ≡ u = ap length r ∙ part-length 16 u b (omega arith) in
+    let r : itemBytes h (rowOf h b) ≡ part 16 u b = row-written b h (omega arith) small in
+    let k : length (itemBytes h (rowOf h b)) ≡ u = ap length r ∙ part-length 16 u b (omega arith) in
     let z : drop u (drop 16 b) ≡ replicate (length (drop u (drop 16 b))) 0 =
     zeros-list (drop u (drop 16 b)) (rw (drop-drop u 16 b) (rw (take-all (16 + e .leaf) b (omega arith)) at (f .rest))) in
-    let w : length (drop u (drop 16 b)) ≡ e .size - (16 + length (rowBytes h (rowOf h b))) = simp length-drop (omega arith) in
-    let after : drop 16 b ≡ rowBytes h (rowOf h b) ++ padding e (cellOf h b) =
+    let w : length (drop u (drop 16 b)) ≡ e .size - (16 + length (itemBytes h (rowOf h b))) = simp length-drop (omega arith) in
+    let after : drop 16 b ≡ itemBytes h (rowOf h b) ++ padding e (cellOf h b) =
     sym (take-append-drop u (drop 16 b)) ∙ ap₂ _++_ (sym r) (z ∙ ap (λ (m : ℕ). replicate m 0) w) in
     let mark : take 2 b ≡ e .mark = same-list (take 2 b) (e .mark) (f .mark) in
     let slot : part 4 4 b ≡ bytes 4 s = sym (bytes-of 4 s (part 4 4 b) (part-length 4 4 b (omega arith)) (f .own) (part-small 4 4 b small)) in

@@ -18,7 +18,7 @@ use Rattle.meaning.specs.declared.Checked.{Checked}
 use Rattle.meaning.specs.declared.Checked.the-variants.{Passed, Faulty}
 use Rattle.meaning.specs.Lists.{pick, both, all, zeros, sameList}
 use Rattle.meaning.specs.Bytes.{block, heightOf, countOf, ownSlot, versionOf, stateOf, recordedOf, state, recorded, soundRecord}
-use Rattle.meaning.specs.Shape.{least, most}
+use Rattle.meaning.specs.Shape.{leastCount, mostCount}
 use Rattle.meaning.specs.Refusals.{refusalOf, at, must, first}
 use Rattle.meaning.specs.Walk.{flaw, used, formed, blockCheck, isRoot, linkCheck, Found, fault, fine, andThen, passing, oneVisit}
 
@@ -158,8 +158,8 @@ pub record Sound (e : Edition) (h : ℕ) (root edge : Bool) (v s : ℕ) (b : Lis
   pub own : ownSlot b ≡ s
   pub version : versionOf b ≡ v
   pub height : heightOf b ≡ h
-  pub least : least e h edge root ≤ countOf b
-  pub most : countOf b ≤ most e h
+  pub least : leastCount e h edge root ≤ countOf b
+  pub most : countOf b ≤ mostCount e h
   pub rest : zeros (drop (16 + used h (countOf b)) (take (16 + e .leaf) b)) ≡ true
 
 -- check 2
@@ -212,15 +212,15 @@ module _ (e : Edition) (h : ℕ) (root edge : Bool) (v s : ℕ) (b : List ℕ) w
       let u = must-passed (formed e h root edge b) (at 8 s) Passed (t .1) in
       let f = flawless e v s b (eqb-true (flaw e v s b) 0 (t .0)) in
       let x = both-true (eqb (heightOf b) h) _ (u .0) in
-      let y = both-true (leb (least e h edge root) (countOf b)) _ (x .1) in
-      let z = both-true (leb (countOf b) (most e h)) _ (y .1) in
+      let y = both-true (leb (leastCount e h edge root) (countOf b)) _ (x .1) in
+      let z = both-true (leb (countOf b) (mostCount e h)) _ (y .1) in
       record {
         mark = f .0;
         own = f .1;
         version = f .2;
         height = eqb-true (heightOf b) h (x .0);
-        least = leb-true (least e h edge root) (countOf b) (y .0);
-        most = leb-true (countOf b) (most e h) (z .0);
+        least = leb-true (leastCount e h edge root) (countOf b) (y .0);
+        most = leb-true (countOf b) (mostCount e h) (z .0);
         rest = z .1;
       }
 
@@ -231,8 +231,8 @@ module _ (e : Edition) (h : ℕ) (root edge : Bool) (v s : ℕ) (b : List ℕ) w
       let n : eqb (flaw e v s b) 0 ≡ true = eq-eqb (flaw e v s b) 0 (no-flaw e v s b (f .mark) (f .own) (f .version)) in
       let g : formed e h root edge b ≡ true =
       true-both (eqb (heightOf b) h) _ (eq-eqb (heightOf b) h (f .height))
-      (true-both (leb (least e h edge root) (countOf b)) _ (le-leb (least e h edge root) (countOf b) (f .least))
-      (true-both (leb (countOf b) (most e h)) _ (le-leb (countOf b) (most e h) (f .most)) (f .rest))) in
+      (true-both (leb (leastCount e h edge root) (countOf b)) _ (le-leb (leastCount e h edge root) (countOf b) (f .least))
+      (true-both (leb (countOf b) (mostCount e h)) _ (le-leb (countOf b) (mostCount e h) (f .most)) (f .rest))) in
       passed-must _ (at (flaw e v s b) s) _ n (passed-must _ (at 8 s) Passed g refl)
 
   -- a fault has a number from 4 to 8, and names the visited slot

@@ -14,7 +14,7 @@ use Rattle.meaning.specs.Lists.{both, joined}
 use Rattle.meaning.specs.Edition.{Proper}
 use Rattle.meaning.specs.Bytes.{block, heightOf, childrenOf}
 use Rattle.meaning.specs.Tree.{Tree, Blob, cells, leavesOf, cellsOf, slotsOf}
-use Rattle.meaning.specs.Walk.{linkCheck, fine, isEmpty, row, visit, fromRoot}
+use Rattle.meaning.specs.Walk.{linkCheck, fine, isEmpty, visitRow, visit, fromRoot}
 use Rattle.laws.proofs.Totals.{total-ge}
 use Rattle.laws.proofs.Shapes.{shaped-blocks}
 use Rattle.laws.proofs.Inversions.{passed-linked}
@@ -88,7 +88,7 @@ module _ (e : Edition) (N : ℕ) (P R : List ℕ) where
       → ((q : ℕ) (edge : Bool) (seen : List ℕ) (s : ℕ) (t : Tree h) (seen′ : List ℕ) → visit e N P R h (Child q) edge seen s ≡ fine t seen′
       → length seen ≡ N → (length seen′ ≡ N) × (suc (marks seen′) ≡ marks (set seen s 1) + length (cells h t)))
       → (q : ℕ) (edge : Bool) (cs seen : List ℕ) {ts : List (Tree h)} {seen′ : List ℕ}
-      → row e N P R (visit e N P R h) q edge cs seen ≡ fine ts seen′ → length seen ≡ N
+      → visitRow e N P R (visit e N P R h) q edge cs seen ≡ fine ts seen′ → length seen ≡ N
       → (length seen′ ≡ N) × (marks seen′ ≡ marks seen + length (joined (map (cells h) ts)))
   unfolding joined
   rows-marks h each q edge [] seen v all =
@@ -125,7 +125,7 @@ module _ (e : Edition) (N : ℕ) (P R : List ℕ) where
 
   -- a row's visit sets a flag for each block of its trees
   pub row-marks : (h q : ℕ) (edge : Bool) (cs seen : List ℕ) {ts : List (Tree h)} {seen′ : List ℕ}
-      → row e N P R (visit e N P R h) q edge cs seen ≡ fine ts seen′ → length seen ≡ N
+      → visitRow e N P R (visit e N P R h) q edge cs seen ≡ fine ts seen′ → length seen ≡ N
       → (length seen′ ≡ N) × (marks seen′ ≡ marks seen + length (joined (map (cells h) ts)))
   row-marks h = rows-marks h (λ q edge seen c t seen′ o. visit-marks h (Child q) edge seen c o)
 

@@ -17,7 +17,7 @@ use Rattle.meaning.specs.Lists.{pick, part, joined}
 use Rattle.meaning.specs.Edition.{Proper}
 use Rattle.meaning.specs.Bytes.{block, countOf, dataOf}
 use Rattle.meaning.specs.Tree.{Tree, Blob, content, leaves, contentOf, leavesOf, lengthOf}
-use Rattle.meaning.specs.Shape.{least, most, InRow, ShapedTree, Shaped}
+use Rattle.meaning.specs.Shape.{leastCount, mostCount, InRow, ShapedTree, Shaped}
 use Rattle.meaning.specs.Walk.{fine, fromRoot}
 use Rattle.laws.proofs.Numbers.{part-part}
 use Rattle.laws.proofs.Shapes.{OfRow, row-counted}
@@ -124,13 +124,13 @@ module _ (e : Edition) (some : 1 ≤ e .leaf) (two : 2 ≤ e .fan) where
 
   -- a leaf has a byte or more, and a payload or less
   leaf-bounds : (edge : Bool) (l : ℕ × List ℕ) → ShapedTree e zero false edge l → (1 ≤ length (l .1)) × (length (l .1) ≤ e .leaf)
-  unfolding ShapedTree least most pick
+  unfolding ShapedTree leastCount mostCount pick
   leaf-bounds true l s = s
   leaf-bounds false l s = (omega arith, s .1)
 
   -- a leaf off the edge is full
   leaf-filled : (l : ℕ × List ℕ) → ShapedTree e zero false false l → length (l .1) ≡ e .leaf
-  unfolding ShapedTree least most pick
+  unfolding ShapedTree leastCount mostCount pick
   leaf-filled l s = omega (arith, s .0, s .1)
 
   -- what row-at says of a leaf of a row
@@ -174,7 +174,7 @@ module _ (e : Edition) (some : 1 ≤ e .leaf) (two : 2 ≤ e .fan) where
 
   -- the leaves of a root's tree are filled
   root-filled : (h : ℕ) (t : Tree h) → ShapedTree e h true true t → Filled (e .leaf) (leaves h t)
-  unfolding ShapedTree leaves least most pick
+  unfolding ShapedTree leaves leastCount mostCount pick
   root-filled zero t s = one-filled t (s .1)
   root-filled (suc h) t s =
       row-filled true (joined (map (leaves h) (t .1))) (row-leaf h true (t .1) (s .2) (omega (arith, s .0)))

@@ -17,7 +17,7 @@ use Rattle.meaning.specs.Bytes.{block, heightOf, dataOf, childrenOf, state}
 use Rattle.meaning.specs.Tree.{Tree, Blob, slotOf, rootOf}
 use Rattle.meaning.specs.declared.Role.{Role}
 use Rattle.meaning.specs.declared.Role.the-variants.{Root}
-use Rattle.meaning.specs.Walk.{Found, fine, oneVisit, row, visit, fromRoot, roots, closing, poolCheck}
+use Rattle.meaning.specs.Walk.{Found, fine, oneVisit, visitRow, visit, fromRoot, roots, closing, poolCheck}
 use Rattle.meaning.specs.Calls.{Outcome, withBlob}
 use Rattle.laws.proofs.Inversions.{by-test, andThen-fine, andThen-turned, andThen-joined, passing-fine, fine-same}
 
@@ -59,7 +59,7 @@ module _ (e : Edition) (N : ℕ) (P R : List ℕ) where
   unfolding visit slotOf
   visit-slot zero role edge seen s v = ap (slotOf zero) (sym (andThen-turned (oneVisit e N P R zero role edge seen s) (λ b. (s, dataOf b)) v .2))
   visit-slot (suc h) role edge seen s v =
-      let below : List ℕ → List ℕ → Found (List (Tree h)) = λ b seen′. row e N P R (visit e N P R h) s edge (childrenOf b) seen′ in
+      let below : List ℕ → List ℕ → Found (List (Tree h)) = λ b seen′. visitRow e N P R (visit e N P R h) s edge (childrenOf b) seen′ in
       let w = andThen-joined (oneVisit e N P R (suc h) role edge seen s) below (λ b ts. (s, ts)) v in
       ap (slotOf (suc h)) (sym (w .5))
 

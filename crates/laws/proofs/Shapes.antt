@@ -10,7 +10,7 @@ use lib.ListN.{length, length-append, length-map, length-replicate, replicate}
 use Rattle.meaning.specs.declared.Edition.{Edition}
 use Rattle.meaning.specs.Lists.{pick, joined}
 use Rattle.meaning.specs.Tree.{Tree, Blob, content, leaves, cells, contentOf, leavesOf, cellsOf, slotsOf, lengthOf}
-use Rattle.meaning.specs.Shape.{leavesFor, heightFor, total, least, most, InRow, ShapedTree, Shaped}
+use Rattle.meaning.specs.Shape.{leavesFor, heightFor, total, leastCount, mostCount, InRow, ShapedTree, Shaped}
 use Rattle.laws.proofs.Totals.{leaves-zero, leaves-is, total-one}
 use Rattle.laws.proofs.Heights.{height-small, height-is}
 use Rattle.laws.proofs.Levels.{levels, levels-none, levels-add, levels-top, total-levels}
@@ -66,10 +66,10 @@ module _ (e : Edition) (some : 1 ≤ e .leaf) (two : 2 ≤ e .fan) where
   -- a block above the trees of a row
   above : (h : ℕ) (edge : Bool) (c n s b : ℕ) → Counted e h edge c n s b → 1 ≤ c → c ≤ e .fan → (edge ≡ false → c ≡ e .fan)
       → Counted e (suc h) edge 1 n s (suc b)
-  above h edge c n s b row least most all =
+  above h edge c n s b row leastCount mostCount all =
       let p = pow-suc (e .fan) h in
-      let low : 1 ≤ n = omega (arith, mul-le-mul-left (e .fan ^ h) least, row .low) in
-      let high : n ≤ e .fan ^ suc h = omega (arith, mul-le-mul-left (e .fan ^ h) most, row .high) in
+      let low : 1 ≤ n = omega (arith, mul-le-mul-left (e .fan ^ h) leastCount, row .low) in
+      let high : n ≤ e .fan ^ suc h = omega (arith, mul-le-mul-left (e .fan ^ h) mostCount, row .high) in
       record {
         low = omega arith;
         high = omega arith;
@@ -96,7 +96,7 @@ module _ (e : Edition) (some : 1 ≤ e .leaf) (two : 2 ≤ e .fan) where
 
   -- a tree below the root is counted with the rows in it
   pub tree-counted : (h : ℕ) (edge : Bool) (t : Tree h) → ShapedTree e h false edge t → OfTree e h edge t
-  unfolding ShapedTree OfTree OfRow leaves content cells least most pick levels
+  unfolding ShapedTree OfTree OfRow leaves content cells leastCount mostCount pick levels
   tree-counted zero true t s =
       let p = pow-zero (e .fan) in
       record {
@@ -134,7 +134,7 @@ module _ (e : Edition) (some : 1 ≤ e .leaf) (two : 2 ≤ e .fan) where
 
   -- a root has a leaf, or two trees or more below it
   whole : (h : ℕ) (t : Tree h) → ShapedTree e h true true t → Whole h (length (leaves h t)) (length (content h t)) (length (cells h t))
-  unfolding ShapedTree OfRow leaves content cells least most pick
+  unfolding ShapedTree OfRow leaves content cells leastCount mostCount pick
   whole zero t s = record {
     count = one-leaf (t .1) (s .1);
     tall = sym (height-small (e .fan) 1 two (omega arith));

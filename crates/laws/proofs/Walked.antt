@@ -18,8 +18,8 @@ use Rattle.meaning.specs.Lists.{both, joined}
 use Rattle.meaning.specs.Edition.{Proper}
 use Rattle.meaning.specs.Bytes.{block, heightOf, countOf, dataOf, childrenOf, recorded}
 use Rattle.meaning.specs.Tree.{Tree, Blob, leaves, leavesOf}
-use Rattle.meaning.specs.Shape.{least, most, InRow, ShapedTree, Shaped}
-use Rattle.meaning.specs.Walk.{used, isRoot, linkCheck, Found, fine, isEmpty, oneVisit, row, visit, fromRoot}
+use Rattle.meaning.specs.Shape.{leastCount, mostCount, InRow, ShapedTree, Shaped}
+use Rattle.meaning.specs.Walk.{used, isRoot, linkCheck, Found, fine, isEmpty, oneVisit, visitRow, visit, fromRoot}
 use Rattle.laws.proofs.Numbers.{part-length}
 use Rattle.laws.proofs.Checks.{used-fits}
 use Rattle.laws.proofs.Codec.{rowOf, row-count}
@@ -39,7 +39,7 @@ pub record InnerFound (e : Edition) (N : ℕ) (P R : List ℕ) (h : ℕ) (role :
   pub link : linkCheck N R seen role s ≡ Passed
   pub sound : Sound e (suc h) (isRoot role) edge (recorded R s) s (block e P s)
   pub below : List (Tree h)
-  pub walked : row e N P R (visit e N P R h) s edge (childrenOf (block e P s)) (set seen s 1) ≡ fine below seen′
+  pub walked : visitRow e N P R (visit e N P R h) s edge (childrenOf (block e P s)) (set seen s 1) ≡ fine below seen′
   pub tree : (s, below) ≡ t
 
 -- what a row's visit that went well found: its first child's tree, then the others'
@@ -49,7 +49,7 @@ pub record RowFound (e : Edition) (N : ℕ) (P R : List ℕ) (h p : ℕ) (edge :
   pub mid : List ℕ
   pub rest : List (Tree h)
   pub walked : visit e N P R h (Child p) (both edge (isEmpty cs)) seen c ≡ fine first mid
-  pub others : row e N P R (visit e N P R h) p edge cs mid ≡ fine rest seen′
+  pub others : visitRow e N P R (visit e N P R h) p edge cs mid ≡ fine rest seen′
   pub trees : first ∷ rest ≡ ts
 
 module _ (e : Edition) (N : ℕ) (P R : List ℕ) where
@@ -72,7 +72,7 @@ module _ (e : Edition) (N : ℕ) (P R : List ℕ) where
       → visit e N P R (suc h) role edge seen s ≡ fine t seen′ → InnerFound e N P R h role edge seen s t seen′
   unfolding visit
   inner-found h role edge seen s v =
-      let below : List ℕ → List ℕ → Found (List (Tree h)) = λ b mid. row e N P R (visit e N P R h) s edge (childrenOf b) mid in
+      let below : List ℕ → List ℕ → Found (List (Tree h)) = λ b mid. visitRow e N P R (visit e N P R h) s edge (childrenOf b) mid in
       let (b, mid, ts, o, r, q) = andThen-joined (oneVisit e N P R (suc h) role edge seen s) below (λ b ts. (s, ts)) v in
       let w = fine-visited e N P R (suc h) role edge seen s o in
       record {
@@ -85,17 +85,17 @@ module _ (e : Edition) (N : ℕ) (P R : List ℕ) where
 
   -- a visit of no child
   pub none-found : (h p : ℕ) (edge : Bool) (seen : List ℕ) {ts : List (Tree h)} {seen′ : List ℕ}
-      → row e N P R (visit e N P R h) p edge [] seen ≡ fine ts seen′ → ([] ≡ ts) × (seen ≡ seen′)
-  unfolding row
+      → visitRow e N P R (visit e N P R h) p edge [] seen ≡ fine ts seen′ → ([] ≡ ts) × (seen ≡ seen′)
+  unfolding visitRow
   none-found h p edge seen v = fine-same v
 
   -- a visit of a child and then of others
   pub row-found : (h p : ℕ) (edge : Bool) (c : ℕ) (cs seen : List ℕ) {ts : List (Tree h)} {seen′ : List ℕ}
-      → row e N P R (visit e N P R h) p edge (c ∷ cs) seen ≡ fine ts seen′ → RowFound e N P R h p edge c cs seen ts seen′
-  unfolding row
+      → visitRow e N P R (visit e N P R h) p edge (c ∷ cs) seen ≡ fine ts seen′ → RowFound e N P R h p edge c cs seen ts seen′
+  unfolding visitRow
   row-found h p edge c cs seen v =
       let (t, mid, ts, o, r, q) = andThen-joined (visit e N P R h (Child p) (both edge (isEmpty cs)) seen c)
-      (λ t mid. row e N P R (visit e N P R h) p edge cs mid) (λ t ts. t ∷ ts) v in
+      (λ t mid. visitRow e N P R (visit e N P R h) p edge cs mid) (λ t ts. t ∷ ts) v in
       record { first = t; mid = mid; rest = ts; walked = o; others = r; trees = q }
 
   -- the walk from a root
@@ -152,7 +152,7 @@ module _ (e : Edition) (p : Proper e) (N : ℕ) (P : List ℕ) (whole : length P
   block-length s within = part-length (e .size * s) (e .size) P (omega (arith, whole, mul-le-mul-left (e .size) within))
 
   -- what a count within its range uses lies in the block
-  pub block-room : (h s : ℕ) → s < N → countOf (block e P s) ≤ most e h → 16 + used h (countOf (block e P s)) ≤ length (block e P s)
+  pub block-room : (h s : ℕ) → s < N → countOf (block e P s) ≤ mostCount e h → 16 + used h (countOf (block e P s)) ≤ length (block e P s)
   block-room h s within high = omega (arith, block-length s within, used-fits e p h (countOf (block e P s)) high, p .fits)
 
   -- a block that is sound has a row of as many elements as it counts
@@ -166,7 +166,7 @@ module _ (e : Edition) (p : Proper e) (N : ℕ) (P R : List ℕ) (whole : length
       → ((q : ℕ) (edge : Bool) (seen : List ℕ) (s : ℕ) (t : Tree h) (seen′ : List ℕ) → visit e N P R h (Child q) edge seen s ≡ fine t seen′
       → ShapedTree e h false edge t)
       → (q : ℕ) (edge : Bool) (cs seen : List ℕ) {ts : List (Tree h)} {seen′ : List ℕ}
-      → row e N P R (visit e N P R h) q edge cs seen ≡ fine ts seen′ → (length ts ≡ length cs) × InRow (ShapedTree e h false) edge ts
+      → visitRow e N P R (visit e N P R h) q edge cs seen ≡ fine ts seen′ → (length ts ≡ length cs) × InRow (ShapedTree e h false) edge ts
   unfolding InRow
   rows-shaped h each q edge [] seen v =
       let n = none-found e N P R h q edge seen v in
@@ -196,7 +196,7 @@ module _ (e : Edition) (p : Proper e) (N : ℕ) (P R : List ℕ) (whole : length
 
   -- so has a row
   pub row-shaped : (h q : ℕ) (edge : Bool) (cs seen : List ℕ) {ts : List (Tree h)} {seen′ : List ℕ}
-      → row e N P R (visit e N P R h) q edge cs seen ≡ fine ts seen′ → (length ts ≡ length cs) × InRow (ShapedTree e h false) edge ts
+      → visitRow e N P R (visit e N P R h) q edge cs seen ≡ fine ts seen′ → (length ts ≡ length cs) × InRow (ShapedTree e h false) edge ts
   unfolding isRoot
   row-shaped h = rows-shaped h (λ q edge seen c t seen′ o. visit-shaped h (Child q) edge seen c o (λ z. never (sym z)))
 
@@ -235,7 +235,7 @@ module _ (e : Edition) (p : Proper e) (N : ℕ) (P R : List ℕ) (whole : length
   rows-here : (h : ℕ)
       → ((q : ℕ) (edge : Bool) (seen : List ℕ) (s : ℕ) (t : Tree h) (seen′ : List ℕ) → visit e N P R h (Child q) edge seen s ≡ fine t seen′
       → (l : ℕ × List ℕ) → List·Memᴰ l (leaves h t) → LeafHere e N P l)
-      → (q : ℕ) (edge : Bool) (cs seen : List ℕ) {ts : List (Tree h)} {seen′ : List ℕ} → row e N P R (visit e N P R h) q edge cs seen ≡ fine ts seen′
+      → (q : ℕ) (edge : Bool) (cs seen : List ℕ) {ts : List (Tree h)} {seen′ : List ℕ} → visitRow e N P R (visit e N P R h) q edge cs seen ≡ fine ts seen′
       → (l : ℕ × List ℕ) → List·Memᴰ l (joined (map (leaves h) ts)) → LeafHere e N P l
   unfolding joined
   rows-here h each q edge [] seen v =
@@ -251,7 +251,7 @@ module _ (e : Edition) (p : Proper e) (N : ℕ) (P R : List ℕ) (whole : length
   pub visit-leaves : (h : ℕ) (role : Role) (edge : Bool) (seen : List ℕ) (s : ℕ) {t : Tree h} {seen′ : List ℕ}
       → visit e N P R h role edge seen s ≡ fine t seen′ → (isRoot role ≡ true → s < N)
       → (l : ℕ × List ℕ) → List·Memᴰ l (leaves h t) → LeafHere e N P l
-  unfolding leaves rowOf isRoot used most
+  unfolding leaves rowOf isRoot used mostCount
   visit-leaves zero role edge seen s v root =
       let f = leaf-found e N P R role edge seen s v in
       let within = slot-within N R seen role s (f .link) root in

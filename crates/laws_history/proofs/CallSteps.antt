@@ -165,7 +165,7 @@ module _ (e : Edition) (N : ℕ) (small : N ≤ 2 ^ 32) (S : Store) (is : Settle
   create-steps = check-steps _ _ (λ bs seen v. if-steps _ 11 _ (λ t. become-steps _ 2 [] _ ready))
     where
       cell : Cell
-      cell = record { height = 0; row = [] }
+      cell = record { height = 0; items = [] }
 
       ready : Ready N R 2 (held []) (held ((lowest (usable e N P R), cell) ∷ []))
       ready = unfold held Young in record {
@@ -237,6 +237,6 @@ call-steps e p N few S is c = on c
     on (run.write r offset d) = call (λ k. writeIn e k (S .pool) (S .records) r offset d) (write-steps e N small S is r offset d)
     on (run.resize r len) = call (λ k. resizeIn e k (S .pool) (S .records) r len) (resize-steps e N small S is r len)
     on (run.delete r) = call (λ k. deleteIn e k (S .pool) (S .records) r) (delete-steps e N small S is r)
-    on (run.length r) = call (λ k. lengthIn e k (S .pool) (S .records) r) (length-steps e N small S is r)
+    on (run.tellLength r) = call (λ k. lengthIn e k (S .pool) (S .records) r) (length-steps e N small S is r)
     on (run.read r offset size) = call (λ k. readIn e k (S .pool) (S .records) r offset size) (read-steps e N small S is r offset size)
     on (run.showLeaf r k) = call (λ n. showIn e n (S .pool) (S .records) r k) (show-steps e N small S is r k)

@@ -11,7 +11,7 @@ use lib.Seq.{take-take}
 use Rattle.meaning.specs.declared.Edition.{Edition}
 use Rattle.meaning.specs.Lists.{pick, part, number, bytes, padded, sameList}
 use Rattle.meaning.specs.Edition.{Proper}
-use Rattle.meaning.specs.Bytes.{Cell, rowBytes, header, blockBytes, encoded, ownSlot, versionOf}
+use Rattle.meaning.specs.Bytes.{Cell, itemBytes, header, blockBytes, encoded, ownSlot, versionOf}
 use Rattle.meaning.specs.Walk.{flaw}
 use Rattle.laws.proofs.Numbers.{number-bytes}
 use Rattle.laws.proofs.Inversions.{same-self}
@@ -45,7 +45,7 @@ headed (a ∷ b ∷ c ∷ m) h n s v more rest e = absurd (omega arith)
 pub encoded-carries : (e : Edition) → Proper e → (c : Cell) (s v : ℕ) → s < 2 ^ 32 → v < 2 ^ 64 → Carries e s v (encoded e c s v)
 unfolding encoded blockBytes padded header ownSlot versionOf
 encoded-carries e p c s v hs hv =
-    let f = headed (e .mark) (c .height) (length (c .row)) s v (rowBytes (c .height) (c .row)) (replicate (e .size) 0) (p .marked) in
+    let f = headed (e .mark) (c .height) (length (c .items)) s v (itemBytes (c .height) (c .items)) (replicate (e .size) 0) (p .marked) in
     record {
       mark = front (encoded e c s v) ∙ part-take 0 2 (e .size) _ (omega (arith, p .fits)) ∙ f .0;
       slot = ap number (part-take 4 4 (e .size) _ (omega (arith, p .fits)) ∙ f .1) ∙ number-bytes 4 s hs;

@@ -16,7 +16,7 @@ use Rattle.meaning.specs.declared.Checked.the-variants.{Passed}
 use Rattle.meaning.specs.Lists.{both, range}
 use Rattle.meaning.specs.Bytes.{block, heightOf, childrenOf, state, recorded}
 use Rattle.meaning.specs.Tree.{Tree, Blob}
-use Rattle.meaning.specs.Walk.{isRoot, linkCheck, Found, fine, isEmpty, oneVisit, row, visit, fromRoot, blobCheck, roots, poolCheck}
+use Rattle.meaning.specs.Walk.{isRoot, linkCheck, Found, fine, isEmpty, oneVisit, visitRow, visit, fromRoot, blobCheck, roots, poolCheck}
 use Rattle.laws.proofs.Inversions.{never, by-test, Sound, sound-passed, passed-linked, linked-passed, visited-fine, fine-andThen, andThen-fine}
 use Rattle.laws.proofs.Walked.{leaf-found, inner-found, none-found, row-found, root-found}
 use Rattle.laws.proofs.Marks.{walk-marks}
@@ -80,9 +80,9 @@ module _ (e : Edition) (N : ℕ) (P R : List ℕ) where
       → ((q : ℕ) (edge : Bool) (seen m : List ℕ) (s : ℕ) (t : Tree h) (seen′ : List ℕ) → visit e N P R h (Child q) edge seen s ≡ fine t seen′
       → Fewer m seen → Found-too (visit e N P R h (Child q) edge m s) t seen′)
       → (q : ℕ) (edge : Bool) (cs seen m : List ℕ) (ts : List (Tree h)) (seen′ : List ℕ)
-      → row e N P R (visit e N P R h) q edge cs seen ≡ fine ts seen′ → Fewer m seen
-      → Found-too (row e N P R (visit e N P R h) q edge cs m) ts seen′
-  unfolding row
+      → visitRow e N P R (visit e N P R h) q edge cs seen ≡ fine ts seen′ → Fewer m seen
+      → Found-too (visitRow e N P R (visit e N P R h) q edge cs m) ts seen′
+  unfolding visitRow
   row-fewer h each q edge [] seen m ts seen′ v f =
       let n = none-found e N P R h q edge seen v in
       (m, ap (λ (ts : List (Tree h)). fine ts m) (n .0), subst (Fewer m) (n .1) f)

@@ -15,7 +15,7 @@ use Rattle.meaning.specs.Bytes.{block, heightOf, dataOf, childrenOf, recorded}
 use Rattle.meaning.specs.Tree.{Tree, Blob, slotsOf}
 use Rattle.meaning.specs.Refusals.{at}
 use Rattle.meaning.specs.Walk.{flaw, blockCheck, isRoot, linkCheck, Found, fault, fine, andThen, passing}
-use Rattle.meaning.specs.Walk.{isEmpty, oneVisit, row, visit, fromRoot, blobCheck}
+use Rattle.meaning.specs.Walk.{isEmpty, oneVisit, visitRow, visit, fromRoot, blobCheck}
 use Rattle.laws.proofs.Checks.{check-flaw}
 use Rattle.laws.proofs.Inversions.{Sound, never, by-test, same-list, same-self, passed-passing, sound-passed, flaw-number}
 use Rattle.laws.proofs.Walked.{leaf-found, inner-found, none-found, row-found, root-found}
@@ -134,9 +134,9 @@ module _ (e : Edition) (P P* R : List ℕ) where
         → ((q : ℕ) (edge : Bool) (seen : List ℕ) (s : ℕ) (t : Tree h) (seen′ : List ℕ) → visit e N P R h (Child q) edge seen s ≡ fine t seen′
         → Each (Told e P P* R) (slots h t) → visit e N P* R h (Child q) edge seen s ≡ firstOther (slots h t) (fine t seen′))
         → (q : ℕ) (edge : Bool) (cs seen : List ℕ) (ts : List (Tree h)) (seen′ : List ℕ)
-        → row e N P R (visit e N P R h) q edge cs seen ≡ fine ts seen′ → Each (Told e P P* R) (joined (map (slots h) ts))
-        → row e N P* R (visit e N P* R h) q edge cs seen ≡ firstOther (joined (map (slots h) ts)) (fine ts seen′)
-    unfolding row joined firstOther
+        → visitRow e N P R (visit e N P R h) q edge cs seen ≡ fine ts seen′ → Each (Told e P P* R) (joined (map (slots h) ts))
+        → visitRow e N P* R (visit e N P* R h) q edge cs seen ≡ firstOther (joined (map (slots h) ts)) (fine ts seen′)
+    unfolding visitRow joined firstOther
     rows-other h each q edge [] seen ts seen′ v told =
         let n = none-found e N P R h q edge seen v in
         rw (← n .0, ← n .1)
@@ -176,8 +176,8 @@ module _ (e : Edition) (P P* R : List ℕ) where
 
     -- so does the visit of a row
     pub row-other : (h q : ℕ) (edge : Bool) (cs seen : List ℕ) (ts : List (Tree h)) (seen′ : List ℕ)
-        → row e N P R (visit e N P R h) q edge cs seen ≡ fine ts seen′ → Each (Told e P P* R) (joined (map (slots h) ts))
-        → row e N P* R (visit e N P* R h) q edge cs seen ≡ firstOther (joined (map (slots h) ts)) (fine ts seen′)
+        → visitRow e N P R (visit e N P R h) q edge cs seen ≡ fine ts seen′ → Each (Told e P P* R) (joined (map (slots h) ts))
+        → visitRow e N P* R (visit e N P* R h) q edge cs seen ≡ firstOther (joined (map (slots h) ts)) (fine ts seen′)
     row-other h = rows-other h (λ q. visit-other h (Child q))
 
     -- the blob of a tree found from root r, in the other pool, with the height that its block there asks for

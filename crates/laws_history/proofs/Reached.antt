@@ -17,7 +17,7 @@ use Rattle.meaning.specs.declared.Checked.the-variants.{Passed}
 use Rattle.meaning.specs.Lists.{pick, both, joined, range, zeros}
 use Rattle.meaning.specs.Bytes.{block, heightOf, childrenOf, state, recorded}
 use Rattle.meaning.specs.Tree.{Tree, Blob, slotsOf}
-use Rattle.meaning.specs.Walk.{flaw, isRoot, linkCheck, fine, isEmpty, row, visit, fromRoot, roots, closingCheck, closing, poolCheck}
+use Rattle.meaning.specs.Walk.{flaw, isRoot, linkCheck, fine, isEmpty, visitRow, visit, fromRoot, roots, closingCheck, closing, poolCheck}
 use Rattle.laws.proofs.Inversions.{never, by-test, no-flaw, Sound, passed-linked, must-passed, first-passed, andThen-fine, passing-fine, fine-same}
 use Rattle.laws.proofs.Walked.{leaf-found, inner-found, none-found, row-found, root-found}
 use Rattle.laws.proofs.Roots.{visit-slot, roots-root, roots-other}
@@ -69,7 +69,7 @@ module _ (e : Edition) (N : ℕ) (P R : List ℕ) (Q : ℕ → Type 0)
       → ((q : ℕ) (edge : Bool) (seen : List ℕ) (s : ℕ) (t : Tree h) (seen′ : List ℕ) → visit e N P R h (Child q) edge seen s ≡ fine t seen′
       → Reach (slots h t) seen seen′)
       → (q : ℕ) (edge : Bool) (cs seen : List ℕ) {ts : List (Tree h)} {seen′ : List ℕ}
-      → row e N P R (visit e N P R h) q edge cs seen ≡ fine ts seen′ → Reach (joined (map (slots h) ts)) seen seen′
+      → visitRow e N P R (visit e N P R h) q edge cs seen ≡ fine ts seen′ → Reach (joined (map (slots h) ts)) seen seen′
   unfolding joined
   row-reach h each q edge [] seen v =
       let n = none-found e N P R h q edge seen v in

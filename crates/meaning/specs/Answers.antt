@@ -9,44 +9,44 @@ use Rattle.meaning.specs.declared.Edition.{Edition}
 use Rattle.meaning.specs.declared.Named.the-variants.{Nowhere}
 use Rattle.meaning.specs.declared.Refusal.{Refusal}
 use Rattle.meaning.specs.declared.Length.{Length}
-use Rattle.meaning.specs.declared.Length.the-variants as length
+use Rattle.meaning.specs.declared.Length.the-variants as lengthCase
 use Rattle.meaning.specs.declared.Audit.{Audit}
-use Rattle.meaning.specs.declared.Audit.the-variants as audit
+use Rattle.meaning.specs.declared.Audit.the-variants as auditCase
 use Rattle.meaning.specs.declared.Created.{Created}
-use Rattle.meaning.specs.declared.Created.the-variants as created
+use Rattle.meaning.specs.declared.Created.the-variants as createdCase
 use Rattle.meaning.specs.declared.Changed.{Changed}
-use Rattle.meaning.specs.declared.Changed.the-variants as changed
+use Rattle.meaning.specs.declared.Changed.the-variants as changedCase
 use Rattle.meaning.specs.declared.Finished.{Finished}
-use Rattle.meaning.specs.declared.Finished.the-variants as finished
+use Rattle.meaning.specs.declared.Finished.the-variants as finishedCase
 use Rattle.meaning.specs.declared.Leaf.{Leaf}
-use Rattle.meaning.specs.declared.Leaf.the-variants as leaf
+use Rattle.meaning.specs.declared.Leaf.the-variants as leafCase
 
 unfoldable pub lengthAnswer : Outcome ℕ → Length
-lengthAnswer (refused r) = length.Refused r
-lengthAnswer (done n cs) = length.Is n
+lengthAnswer (refused r) = lengthCase.Refused r
+lengthAnswer (done n cs) = lengthCase.Is n
 
 unfoldable pub auditAnswer : Outcome ℕ → Audit
-auditAnswer (refused r) = audit.Refused r
-auditAnswer (done n cs) = audit.Live n
+auditAnswer (refused r) = auditCase.Refused r
+auditAnswer (done n cs) = auditCase.Live n
 
 unfoldable pub createAnswer : Outcome ℕ → Created
-createAnswer (refused r) = created.Refused r
-createAnswer (done s cs) = created.At s
+createAnswer (refused r) = createdCase.Refused r
+createAnswer (done s cs) = createdCase.At s
 
 -- write, resize and delete
 unfoldable pub changeAnswer : Outcome (Unit {0}) → Changed
-changeAnswer (refused r) = changed.Refused r
-changeAnswer (done v cs) = changed.Done
+changeAnswer (refused r) = changedCase.Refused r
+changeAnswer (done v cs) = changedCase.Done
 
 -- read and wipe
 unfoldable pub finishAnswer : {A : Type 0} → Outcome A → Finished
-finishAnswer (refused r) = finished.Refused r
-finishAnswer (done v cs) = finished.Done
+finishAnswer (refused r) = finishedCase.Refused r
+finishAnswer (done v cs) = finishedCase.Done
 
 -- where a shown leaf's data bytes lie in the pool
 unfoldable pub leafAnswer : Edition → Outcome (ℕ × ℕ) → Leaf
-leafAnswer e (refused r) = leaf.Refused r
-leafAnswer e (done v cs) = leaf.At (e .size * v .0 + 16) (v .1)
+leafAnswer e (refused r) = leafCase.Refused r
+leafAnswer e (done v cs) = leafCase.At (e .size * v .0 + 16) (v .1)
 
 -- the lent output after a read: filled whole, or untouched
 unfoldable pub readOut : Outcome (List ℕ) → List ℕ → List ℕ
@@ -90,25 +90,25 @@ pub data Said : Type 0 where
   refuses : Refusal → Said
 
 unfoldable pub lengthSaid : Length → Said
-lengthSaid (length.Is n) = yields (n ∷ [])
-lengthSaid (length.Refused r) = refuses r
+lengthSaid (lengthCase.Is n) = yields (n ∷ [])
+lengthSaid (lengthCase.Refused r) = refuses r
 
 unfoldable pub auditSaid : Audit → Said
-auditSaid (audit.Live n) = yields (n ∷ [])
-auditSaid (audit.Refused r) = refuses r
+auditSaid (auditCase.Live n) = yields (n ∷ [])
+auditSaid (auditCase.Refused r) = refuses r
 
 unfoldable pub createdSaid : Created → Said
-createdSaid (created.At s) = yields (s ∷ [])
-createdSaid (created.Refused r) = refuses r
+createdSaid (createdCase.At s) = yields (s ∷ [])
+createdSaid (createdCase.Refused r) = refuses r
 
 unfoldable pub changedSaid : Changed → Said
-changedSaid changed.Done = yields []
-changedSaid (changed.Refused r) = refuses r
+changedSaid changedCase.Done = yields []
+changedSaid (changedCase.Refused r) = refuses r
 
 unfoldable pub finishedSaid : Finished → Said
-finishedSaid finished.Done = yields []
-finishedSaid (finished.Refused r) = refuses r
+finishedSaid finishedCase.Done = yields []
+finishedSaid (finishedCase.Refused r) = refuses r
 
 unfoldable pub leafSaid : Leaf → Said
-leafSaid (leaf.At start count) = yields (start ∷ count ∷ [])
-leafSaid (leaf.Refused r) = refuses r
+leafSaid (leafCase.At start count) = yields (start ∷ count ∷ [])
+leafSaid (leafCase.Refused r) = refuses r

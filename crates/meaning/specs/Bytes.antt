@@ -10,15 +10,15 @@ use Rattle.meaning.specs.declared.Edition.{Edition}
 -- what a live block holds besides its slot and version: a leaf's data bytes, or an inner block's child slots
 pub record Cell : Type 0 where
   pub height : ℕ
-  pub row : List ℕ
+  pub items : List ℕ
 
 unfoldable pub sameCell : Cell → Cell → Bool
-sameCell a b = both (eqb (a .height) (b .height)) (sameList (a .row) (b .row))
+sameCell a b = both (eqb (a .height) (b .height)) (sameList (a .items) (b .items))
 
 -- the used payload: data bytes, or child slots of four bytes each
-unfoldable pub rowBytes : ℕ → List ℕ → List ℕ
-rowBytes zero row = row
-rowBytes (suc h) row = joined (map (bytes 4) row)
+unfoldable pub itemBytes : ℕ → List ℕ → List ℕ
+itemBytes zero items = items
+itemBytes (suc h) items = joined (map (bytes 4) items)
 
 -- a block's first 16 bytes: mark, height, count, own slot number, version
 unfoldable pub header : Edition → (height count slot version : ℕ) → List ℕ
@@ -30,7 +30,7 @@ blockBytes e height count slot version payload = padded (e .size) (header e heig
 
 -- the block of a cell
 unfoldable pub encoded : Edition → Cell → (slot version : ℕ) → List ℕ
-encoded e c slot version = blockBytes e (c .height) (length (c .row)) slot version (rowBytes (c .height) (c .row))
+encoded e c slot version = blockBytes e (c .height) (length (c .items)) slot version (itemBytes (c .height) (c .items))
 
 -- a pool has slots of size bytes each
 unfoldable pub block : Edition → List ℕ → ℕ → List ℕ

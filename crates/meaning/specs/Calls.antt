@@ -118,7 +118,7 @@ module _ (e : Edition) (N : ℕ) (P R : List ℕ) where
   unfoldable pub createOn : List Blob → Outcome ℕ
   createOn bs =
       refuseFull 1
-      (done (lowest usable) (become 2 [] ((lowest usable, record { height = 0; row = [] }) ∷ [])))
+      (done (lowest usable) (become 2 [] ((lowest usable, record { height = 0; items = [] }) ∷ [])))
 
   unfoldable pub createIn : Outcome ℕ
   createIn = afterCheck (poolCheck e N P R) createOn

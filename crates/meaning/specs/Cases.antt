@@ -8,16 +8,16 @@ use lib.Dec.{eqb}
 use lib.ListN.{replicate, set}
 use Rattle.meaning.specs.Lists.{pick, both, part, pasted, joined, range, filter, all, ofLast, mapLast, only, sameList, zeros, number, bytes, padded, fours}
 use Rattle.meaning.specs.Edition.{one}
-use Rattle.meaning.specs.Bytes.{Cell, sameCell, rowBytes, header, blockBytes, encoded, block, heightOf, countOf, ownSlot, versionOf, dataOf, childrenOf, recordWith, recordOf, recordAt, stateOf, recordedOf, state, recorded, soundRecord, lastVersion, usableSlot}
+use Rattle.meaning.specs.Bytes.{Cell, sameCell, itemBytes, header, blockBytes, encoded, block, heightOf, countOf, ownSlot, versionOf, dataOf, childrenOf, recordWith, recordOf, recordAt, stateOf, recordedOf, state, recorded, soundRecord, lastVersion, usableSlot}
 use Rattle.meaning.specs.Tree.{slotOf, atSlot, content, leaves, cells, rootOf, contentOf, leavesOf, cellsOf, slotsOf, lengthOf, held}
-use Rattle.meaning.specs.Shape.{up, leavesFor, totalWithin, total, least, most}
+use Rattle.meaning.specs.Shape.{up, leavesFor, totalWithin, total, leastCount, mostCount}
 use Rattle.meaning.specs.Refusals.{refusalOf, at, nowhere, must, first, slotNumber}
-use Rattle.meaning.specs.Walk.{flaw, used, formed, blockCheck, isRoot, linkCheck, andThen, passing, isEmpty, oneVisit, row, visit, fromRoot, blobCheck, roots, closingCheck, closing, poolCheck}
+use Rattle.meaning.specs.Walk.{flaw, used, formed, blockCheck, isRoot, linkCheck, andThen, passing, isEmpty, oneVisit, visitRow, visit, fromRoot, blobCheck, roots, closingCheck, closing, poolCheck}
 use Rattle.meaning.specs.Change.{Store, put, puts, changedBy, freed, renewed, changed, changes}
 use Rattle.meaning.specs.Resize.{lowest, chain, onLast, roomy, hang, raised, addLeaf, addLeaves, lastLeaf, share, shares, lastBytes, longer, keepRow, keep, lower, shorter, resized, along, refill, refilled}
 use Rattle.meaning.specs.Calls.{refuseIf, afterCheck, slotsIn, sized, refuseBadRecord, opened, withBlob, usable, live, rooted, reading, changing, refuseWorn, refusePast, refuseFull, become, lengthOn, lengthIn, readOn, readIn, auditOn, auditIn, createOn, createIn, newBlocks, resizeOn, resizeIn, writeOn, writeIn, lengthCall, readCall, auditCall, createCall, writeCall, resizeCall, after, freeRecords, wiped}
 use Rattle.meaning.specs.Answers.{Said, yields, refuses}
-use Rattle.meaning.specs.Run.{Call, create, audit, write, resize, length, read, saidBy, says, perform}
+use Rattle.meaning.specs.Run.{Call, create, audit, write, resize, tellLength, read, saidBy, says, perform}
 use Rattle.meaning.specs.declared.Named.{Named}
 use Rattle.meaning.specs.declared.Named.the-variants.{Nowhere, Slot}
 
@@ -51,8 +51,8 @@ holds S s st version c =
     (sameList (block one (S .pool) s) (encoded one c s version))
 
 unfoldable pub true-of : Store → Fact → Bool
-true-of S (leaf s st version row) = holds S s st version (record { height = 0; row = row })
-true-of S (inner s st version height row) = holds S s st version (record { height = height; row = row })
+true-of S (leaf s st version row) = holds S s st version (record { height = 0; items = row })
+true-of S (inner s st version height row) = holds S s st version (record { height = height; items = row })
 true-of S (free s version) =
     both (sameList (recordAt (S .records) s) (recordOf 0 version)) (zeros (block one (S .pool) s))
 true-of S (whole pool records) = both (sameList (S .pool) pool) (sameList (S .records) records)
@@ -114,7 +114,7 @@ cases =
 
 -- an empty leaf of slot 0 at this version
 unfoldable pub empty : (version : ℕ) → List ℕ
-empty version = encoded one (record { height = 0; row = [] }) 0 version
+empty version = encoded one (record { height = 0; items = [] }) 0 version
 
 -- two slots, the blob of an empty leaf in the first
 unfoldable pub two : (b line b′ line′ : List ℕ) → Store
@@ -132,17 +132,17 @@ refusals =
     -- a live record of version 0
     ∷ refusal (beside (empty 0) (recordOf 2 0)) audit 2 (Slot 0)
     -- slot 1 is free
-    ∷ refusal (beside (empty 1) (recordOf 2 1)) (length 1) 3 Nowhere
+    ∷ refusal (beside (empty 1) (recordOf 2 1)) (tellLength 1) 3 Nowhere
     -- another mark
-    ∷ refusal (beside (set (empty 1) 0 0x4d) (recordOf 2 1)) (length 0) 4 (Slot 0)
+    ∷ refusal (beside (set (empty 1) 0 0x4d) (recordOf 2 1)) (tellLength 0) 4 (Slot 0)
     -- a block of slot 1
-    ∷ refusal (beside (set (empty 1) 4 1) (recordOf 2 1)) (length 0) 5 (Slot 0)
+    ∷ refusal (beside (set (empty 1) 4 1) (recordOf 2 1)) (tellLength 0) 5 (Slot 0)
     -- an older copy
-    ∷ refusal (beside (empty 1) (recordOf 2 2)) (length 0) 6 (Slot 0)
+    ∷ refusal (beside (empty 1) (recordOf 2 2)) (tellLength 0) 6 (Slot 0)
     -- a newer one
-    ∷ refusal (beside (empty 2) (recordOf 2 1)) (length 0) 7 (Slot 0)
+    ∷ refusal (beside (empty 2) (recordOf 2 1)) (tellLength 0) 7 (Slot 0)
     -- a stale byte after the count
-    ∷ refusal (beside (set (empty 1) 16 7) (recordOf 2 1)) (length 0) 8 (Slot 0)
+    ∷ refusal (beside (set (empty 1) 16 7) (recordOf 2 1)) (tellLength 0) 8 (Slot 0)
     -- an old block in a free slot
     ∷ refusal (two (empty 1) (recordOf 2 1) (empty 1) (recordOf 0 1)) audit 9 (Slot 1)
     -- a byte past the end of an empty blob
@@ -154,5 +154,5 @@ refusals =
     ∷ []
 
 pub cases-hold : all right (cases ++ refusals) ≡ true
-unfolding cases refusals right played sameSaid true-of holds empty two beside one pick both part pasted joined range filter all ofLast mapLast only sameList zeros number bytes padded fours sameCell rowBytes header blockBytes encoded block heightOf countOf ownSlot versionOf dataOf childrenOf recordWith recordOf recordAt stateOf recordedOf state recorded soundRecord lastVersion usableSlot slotOf atSlot content leaves cells rootOf contentOf leavesOf cellsOf slotsOf lengthOf held up leavesFor totalWithin total least most refusalOf at nowhere must first flaw used formed blockCheck isRoot linkCheck andThen passing isEmpty oneVisit row visit fromRoot roots closingCheck closing poolCheck put puts changedBy freed renewed changed changes lowest chain onLast roomy hang raised addLeaf addLeaves lastLeaf share shares lastBytes longer keepRow keep lower shorter resized refuseIf afterCheck slotsIn sized refuseBadRecord opened withBlob usable rooted changing refuseWorn refuseFull become createOn createIn newBlocks resizeOn resizeIn createCall resizeCall after freeRecords wiped saidBy says perform reading blobCheck lengthOn lengthIn refusePast readOn readIn live auditOn auditIn writeOn writeIn lengthCall readCall auditCall writeCall along refill refilled slotNumber
+unfolding cases refusals right played sameSaid true-of holds empty two beside one pick both part pasted joined range filter all ofLast mapLast only sameList zeros number bytes padded fours sameCell itemBytes header blockBytes encoded block heightOf countOf ownSlot versionOf dataOf childrenOf recordWith recordOf recordAt stateOf recordedOf state recorded soundRecord lastVersion usableSlot slotOf atSlot content leaves cells rootOf contentOf leavesOf cellsOf slotsOf lengthOf held up leavesFor totalWithin total leastCount mostCount refusalOf at nowhere must first flaw used formed blockCheck isRoot linkCheck andThen passing isEmpty oneVisit visitRow visit fromRoot roots closingCheck closing poolCheck put puts changedBy freed renewed changed changes lowest chain onLast roomy hang raised addLeaf addLeaves lastLeaf share shares lastBytes longer keepRow keep lower shorter resized refuseIf afterCheck slotsIn sized refuseBadRecord opened withBlob usable rooted changing refuseWorn refuseFull become createOn createIn newBlocks resizeOn resizeIn createCall resizeCall after freeRecords wiped saidBy says perform reading blobCheck lengthOn lengthIn refusePast readOn readIn live auditOn auditIn writeOn writeIn lengthCall readCall auditCall writeCall along refill refilled slotNumber
 cases-hold = refl

@@ -16,7 +16,7 @@ pub data Call : Type 0 where
   create audit : Call
   write : (r offset : ℕ) → List ℕ → Call
   resize : (r len : ℕ) → Call
-  delete length : (r : ℕ) → Call
+  delete tellLength : (r : ℕ) → Call
   read : (r offset size : ℕ) → Call
   showLeaf : (r k : ℕ) → Call
 
@@ -32,7 +32,7 @@ says e S audit = saidBy (λ n. n ∷ []) (auditCall e (S .pool) (S .records))
 says e S (write r offset d) = saidBy (λ v. []) (writeCall e (S .pool) (S .records) r offset d)
 says e S (resize r len) = saidBy (λ v. []) (resizeCall e (S .pool) (S .records) r len)
 says e S (delete r) = saidBy (λ v. []) (deleteCall e (S .pool) (S .records) r)
-says e S (length r) = saidBy (λ n. n ∷ []) (lengthCall e (S .pool) (S .records) r)
+says e S (tellLength r) = saidBy (λ n. n ∷ []) (lengthCall e (S .pool) (S .records) r)
 says e S (read r offset size) = saidBy (λ d. d) (readCall e (S .pool) (S .records) r offset size)
 says e S (showLeaf r k) =
     saidBy (λ v. v .0 ∷ v .1 ∷ shownPart e (S .pool) (done v [])) (showCall e (S .pool) (S .records) r k)
@@ -44,7 +44,7 @@ perform e S audit = after e S (auditCall e (S .pool) (S .records))
 perform e S (write r offset d) = after e S (writeCall e (S .pool) (S .records) r offset d)
 perform e S (resize r len) = after e S (resizeCall e (S .pool) (S .records) r len)
 perform e S (delete r) = after e S (deleteCall e (S .pool) (S .records) r)
-perform e S (length r) = after e S (lengthCall e (S .pool) (S .records) r)
+perform e S (tellLength r) = after e S (lengthCall e (S .pool) (S .records) r)
 perform e S (read r offset size) = after e S (readCall e (S .pool) (S .records) r offset size)
 perform e S (showLeaf r k) = after e S (showCall e (S .pool) (S .records) r k)
 
@@ -69,7 +69,7 @@ noted (resize r len) (yields vs) book = (r, len) ∷ without r book
 noted (delete r) (yields vs) book = without r book
 noted audit (yields vs) book = book
 noted (write r offset d) (yields vs) book = book
-noted (length r) (yields vs) book = book
+noted (tellLength r) (yields vs) book = book
 noted (read r offset size) (yields vs) book = book
 noted (showLeaf r k) (yields vs) book = book
 

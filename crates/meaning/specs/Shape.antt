@@ -36,13 +36,13 @@ unfoldable pub total : (fan n : ℕ) → ℕ
 total fan n = totalWithin n fan n
 
 -- the four ranges: the fewest that a block may hold, by its height, on the right edge or off it, as root or not; and the most
-unfoldable pub least : Edition → ℕ → (edge root : Bool) → ℕ
-least e zero edge root = pick edge (pick root 0 1) (e .leaf)
-least e (suc h) edge root = pick edge (pick root 2 1) (e .fan)
+unfoldable pub leastCount : Edition → ℕ → (edge root : Bool) → ℕ
+leastCount e zero edge root = pick edge (pick root 0 1) (e .leaf)
+leastCount e (suc h) edge root = pick edge (pick root 2 1) (e .fan)
 
-unfoldable pub most : Edition → ℕ → ℕ
-most e zero = e .leaf
-most e (suc h) = e .fan
+unfoldable pub mostCount : Edition → ℕ → ℕ
+mostCount e zero = e .leaf
+mostCount e (suc h) = e .fan
 
 -- the last child of a block on the right edge is on it; no other child is
 unfoldable pub InRow : {A : Type 0} → (Bool → A → Type 0) → Bool → List A → Type 0
@@ -52,9 +52,9 @@ InRow on edge (x ∷ (y ∷ ys)) = on false x × InRow on edge (y ∷ ys)
 
 -- a block holds its least or more and its most or fewer, and so does each below it
 unfoldable pub ShapedTree : Edition → (h : ℕ) → (root edge : Bool) → Tree h → Type 0
-ShapedTree e zero root edge t = (least e zero edge root ≤ length (t .1)) × (length (t .1) ≤ most e zero)
+ShapedTree e zero root edge t = (leastCount e zero edge root ≤ length (t .1)) × (length (t .1) ≤ mostCount e zero)
 ShapedTree e (suc h) root edge t =
-    (least e (suc h) edge root ≤ length (t .1)) × (length (t .1) ≤ most e (suc h)) × InRow (ShapedTree e h false) edge (t .1)
+    (leastCount e (suc h) edge root ≤ length (t .1)) × (length (t .1) ≤ mostCount e (suc h)) × InRow (ShapedTree e h false) edge (t .1)
 
 -- a blob has its shape: the root is on the right edge
 unfoldable pub Shaped : Edition → Blob → Type 0

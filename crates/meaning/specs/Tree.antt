@@ -31,8 +31,8 @@ leaves (suc h) t = joined (map (leaves h) (t .1))
 
 -- each block, in walk order, with what it holds
 unfoldable pub cells : (h : ℕ) → Tree h → List (ℕ × Cell)
-cells zero t = (t .0, record { height = 0; row = t .1 }) ∷ []
-cells (suc h) t = (t .0, record { height = suc h; row = map (slotOf h) (t .1) }) ∷ joined (map (cells h) (t .1))
+cells zero t = (t .0, record { height = 0; items = t .1 }) ∷ []
+cells (suc h) t = (t .0, record { height = suc h; items = map (slotOf h) (t .1) }) ∷ joined (map (cells h) (t .1))
 
 -- a blob is a string of bytes, named by its root's slot
 pub record Blob : Type 0 where

@@ -7,7 +7,7 @@ use lib.ListN.{getD, take, drop, replicate, set}
 use Rattle.meaning.specs.Lists.{pick, both, zeros, sameList, range}
 use Rattle.meaning.specs.Bytes.{block, heightOf, countOf, ownSlot, versionOf, dataOf, childrenOf, state, recorded}
 use Rattle.meaning.specs.Tree.{Tree, Blob}
-use Rattle.meaning.specs.Shape.{least, most}
+use Rattle.meaning.specs.Shape.{leastCount, mostCount}
 use Rattle.meaning.specs.Refusals.{at, must, first}
 use Rattle.meaning.specs.declared.Edition.{Edition}
 use Rattle.meaning.specs.declared.Refusal.{Refusal}
@@ -33,8 +33,8 @@ used (suc h) count = 4 * count
 unfoldable pub formed : Edition → (h : ℕ) → (root edge : Bool) → List ℕ → Bool
 formed e h root edge b =
     both (eqb (heightOf b) h)
-    (both (leb (least e h edge root) (countOf b))
-    (both (leb (countOf b) (most e h))
+    (both (leb (leastCount e h edge root) (countOf b))
+    (both (leb (countOf b) (mostCount e h))
     (zeros (drop (16 + used h (countOf b)) (take (16 + e .leaf) b)))))
 
 -- checks 2 and 3, which name the visited slot
@@ -81,11 +81,11 @@ module _ (e : Edition) (N : ℕ) (P R : List ℕ) where
       (fine (block e P s) (set seen s 1)))
 
   -- to visit a row is to visit blocks one height lower, in row order
-  unfoldable pub row : {A : Type 0} → (Role → Bool → List ℕ → ℕ → Found A) → (parent : ℕ) → (edge : Bool) → List ℕ → List ℕ → Found (List A)
-  row visit p edge [] seen = fine [] seen
-  row visit p edge (c ∷ cs) seen =
+  unfoldable pub visitRow : {A : Type 0} → (Role → Bool → List ℕ → ℕ → Found A) → (parent : ℕ) → (edge : Bool) → List ℕ → List ℕ → Found (List A)
+  visitRow visit p edge [] seen = fine [] seen
+  visitRow visit p edge (c ∷ cs) seen =
       andThen (visit (Child p) (both edge (isEmpty cs)) seen c)
-      (λ t seen′. andThen (row visit p edge cs seen′) (λ ts seen″. fine (t ∷ ts) seen″))
+      (λ t seen′. andThen (visitRow visit p edge cs seen′) (λ ts seen″. fine (t ∷ ts) seen″))
 
   -- to visit a block is to visit its row
   unfoldable pub visit : (h : ℕ) → Role → (edge : Bool) → (seen : List ℕ) → ℕ → Found (Tree h)
@@ -93,7 +93,7 @@ module _ (e : Edition) (N : ℕ) (P R : List ℕ) where
       andThen (oneVisit zero role edge seen s) (λ b seen′. fine (s, dataOf b) seen′)
   visit (suc h) role edge seen s =
       andThen (oneVisit (suc h) role edge seen s)
-      (λ b seen′. andThen (row (visit h) s edge (childrenOf b) seen′) (λ ts seen″. fine (s, ts) seen″))
+      (λ b seen′. andThen (visitRow (visit h) s edge (childrenOf b) seen′) (λ ts seen″. fine (s, ts) seen″))
 
   -- the walk from one root, which is on the right edge; a height above the top fails check 3
   unfoldable pub fromRoot : List ℕ → ℕ → Found Blob

@@ -35,7 +35,7 @@ tree-low zero i t s x m = omega (arith, ap (λ z. z .1 .height) (List·Memᴰ·e
 tree-low (suc h) i t s x m = by (row-low h (tree-low h) i (t .1) s x) (List·Memᴰ·cases-cons m)
   where
     by : (List·Memᴰ (s, x) (counting (count h) (sites h) i (t .1)) → x .height ≤ h)
-        → (_≡_ {A = ℕ × Site} (s, x) (t .0, record { height = suc h; first = i; row = map (slotOf h) (t .1) }))
+        → (_≡_ {A = ℕ × Site} (s, x) (t .0, record { height = suc h; first = i; items = map (slotOf h) (t .1) }))
         ⊎ List·Memᴰ (s, x) (counting (count h) (sites h) i (t .1)) → x .height ≤ suc h
     by rest (inl q) = omega (arith, ap (λ z. z .1 .height) q)
     by rest (inr a) = omega (arith, rest a)

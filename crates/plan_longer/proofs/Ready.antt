@@ -12,7 +12,7 @@ use Rattle.meaning.specs.declared.Edition.{Edition}
 use Rattle.meaning.specs.Edition.{Proper}
 use Rattle.meaning.specs.Bytes.{block, heightOf, countOf}
 use Rattle.meaning.specs.Tree.{Blob, leavesOf, lengthOf}
-use Rattle.meaning.specs.Shape.{leavesFor, total, most, Shaped}
+use Rattle.meaning.specs.Shape.{leavesFor, total, mostCount, Shaped}
 use Rattle.meaning.specs.Resize.{share}
 use Rattle.meaning.specs.Calls.{usable}
 use Rattle.laws.proofs.Codec.{rowOf}
@@ -67,7 +67,7 @@ module _ (e : Edition) (p : Proper e) (n : ℕ) (P R : List ℕ) (r bytes leaves
       )
 
   -- where the root's block stands
-  root-at : sited (sitesOf b) r ≡ at (record { height = b .height; first = 0; row = rootRow b })
+  root-at : sited (sitesOf b) r ≡ at (record { height = b .height; first = 0; items = rootRow b })
   root-at = ap (sited (sitesOf b)) (sym (k .named)) ∙ root-site e p b shaped (k .standing .once)
 
   pub root-row : rootRow b ≡ rowOf (b .height) (block e P r)
@@ -88,7 +88,7 @@ module _ (e : Edition) (p : Proper e) (n : ℕ) (P R : List ℕ) (r bytes leaves
     unfolding siteAt
     noted-height = k .fit s _ noted-at .0 .height
 
-    noted-most : countOf (block e P s) ≤ most e (getD hs s 0 - 1)
+    noted-most : countOf (block e P s) ≤ mostCount e (getD hs s 0 - 1)
     unfolding siteAt
     noted-most = k .fit s _ noted-at .0 .most
 

@@ -54,7 +54,7 @@ new-same e len free kept row n m g h i k p en eh eg er = rw (en, eh, eg, er)
 -- a row that gets longer, of a block of that height and count
 old-same : (e : Edition) (len n : ℕ) (free : List ℕ) (h i : ℕ) (row b : List ℕ) → h ≡ heightOf b → length row ≡ countOf b
     → (h ≡ 0 → length row ≤ share e len i)
-    → sameCell (record { height = h; row = row }) (record { height = h; row = grownRow e len n free h i row })
+    → sameCell (record { height = h; items = row }) (record { height = h; items = grownRow e len n free h i row })
     ≡ both (eqb h (heightOf b)) (eqb (length (grownRow e len n free h i row)) (countOf b))
 unfolding both
 old-same e len n free h i row b eh ec fits = same-grown e len n free h i row fits ∙ rw (eq-eqb h (heightOf b) eh, ec)
@@ -74,7 +74,7 @@ module _ (e : Edition) (p : Proper e) (n : ℕ) (P R : List ℕ) (r bytes leaves
 
   -- what the root held, and what it holds in the end
   abbrev was : Cell
-  was = record { height = b .height; row = rootRow b }
+  was = record { height = b .height; items = rootRow b }
 
   abbrev top : Cell
   top =
@@ -94,11 +94,11 @@ module _ (e : Edition) (p : Proper e) (n : ℕ) (P R : List ℕ) (r bytes leaves
       (root-top e p b (k .standing .shaped) (g .length) longer free (rootRow b))
       (change-root e p R b (k .standing) free (g .length) longer))
 
-  top-kept : sameCell was top ≡ both (eqb (top .height) (heightOf (block e P r))) (eqb (length (top .row)) (countOf (block e P r)))
+  top-kept : sameCell was top ≡ both (eqb (top .height) (heightOf (block e P r))) (eqb (length (top .items)) (countOf (block e P r)))
   top-kept =
       same-longer e p b (k .standing .shaped) (g .length) longer free
-      ∙ ap (λ (c : ℕ). both (eqb (top .height) (b .height)) (eqb (length (top .row)) c)) (root-count e p n P R r bytes leaves row hs fs k w)
-      ∙ ap (λ (h : ℕ). both (eqb (top .height) h) (eqb (length (top .row)) (countOf (block e P r))))
+      ∙ ap (λ (c : ℕ). both (eqb (top .height) (b .height)) (eqb (length (top .items)) c)) (root-count e p n P R r bytes leaves row hs fs k w)
+      ∙ ap (λ (h : ℕ). both (eqb (top .height) h) (eqb (length (top .items)) (countOf (block e P r))))
       (sym (root-height e p n P R r bytes leaves row hs fs k w))
 
   root-same : renewal e R r (block e P r) (rootEnd e g t free (block e P r)) ≡ meant r
@@ -108,7 +108,7 @@ module _ (e : Edition) (p : Proper e) (n : ℕ) (P R : List ℕ) (r bytes leaves
   abbrev grownTo : (m s : ℕ) → Cell
   grownTo m s =
       let h = getD hs s 0 - 1 in
-      record { height = h; row = grownRow e (g .length) m free h (getD fs s 0) (rowOf h (block e P s)) }
+      record { height = h; items = grownRow e (g .length) m free h (getD fs s 0) (rowOf h (block e P s)) }
 
   old-end : (s : ℕ) → oldEnd e g P free hs fs s ≡ grownTo (length (leavesOf b)) s
   unfolding oldEnd
@@ -125,7 +125,7 @@ module _ (e : Edition) (p : Proper e) (n : ℕ) (P R : List ℕ) (r bytes leaves
       (sym (noted-height e p n P R r bytes leaves row hs fs k w s noted)) count
       (λ low. omega (arith, count, noted-share e p n P R r bytes leaves row hs fs k w s noted (g .length) long low)) in
       ap (renewal e R s (block e P s)) (old-end s)
-      ∙ renewal-same e R s (block e P s) (record { height = getD hs s 0 - 1; row = rowOf (getD hs s 0 - 1) (block e P s) }) new same
+      ∙ renewal-same e R s (block e P s) (record { height = getD hs s 0 - 1; items = rowOf (getD hs s 0 - 1) (block e P s) }) new same
       ∙ sym (change-old e p R b (k .standing) free (g .length) longer s _ at (λ q. other (q ∙ k .named)))
 
   -- a usable slot that is taken

@@ -6,7 +6,7 @@ use Prim.Native.Nat.{ℕ, _+_, _-_, _*_, _^_, _≤_, _<_}
 use lib.ListN.{length, getD}
 use Rattle.meaning.specs.declared.Edition.{Edition}
 use Rattle.meaning.specs.Bytes.{Cell, block, countOf, lastVersion}
-use Rattle.meaning.specs.Shape.{most}
+use Rattle.meaning.specs.Shape.{mostCount}
 use Rattle.meaning.specs.Resize.{share}
 use Rattle.laws.proofs.Codec.{rowOf}
 use Rattle.laws_resize.specs.growth.Forms.{grownRow}
@@ -23,7 +23,7 @@ pub record Spot (e : Edition) (g : Growth) (P hs fs : List ℕ) (s : ℕ) : Type
   pub heights : s < length hs
   pub firsts : s < length fs
   pub low : e .fan ^ (getD hs s 0 - 1) ≤ 2 ^ 50
-  pub most : 1 ≤ getD hs s 0 → countOf (block e P s) ≤ most e (getD hs s 0 - 1)
+  pub most : 1 ≤ getD hs s 0 → countOf (block e P s) ≤ mostCount e (getD hs s 0 - 1)
   pub share : 1 ≤ getD hs s 0 → getD hs s 0 - 1 ≡ 0 → countOf (block e P s) ≤ share e (g .length) (getD fs s 0)
 
 -- a turn and its payload renew a slot whose block is b by the cell c: any slot whose version can rise
@@ -39,4 +39,4 @@ rootEnd e g t free kept = topAt e (g .length) (g .leaves) (t .blocks) free (t .h
 unfoldable pub oldEnd : Edition → Growth → (P free hs fs : List ℕ) → ℕ → Cell
 oldEnd e g P free hs fs s =
     let h = getD hs s 0 - 1 in
-    record { height = h; row = grownRow e (g .length) (g .leaves) free h (getD fs s 0) (rowOf h (block e P s)) }
+    record { height = h; items = grownRow e (g .length) (g .leaves) free h (getD fs s 0) (rowOf h (block e P s)) }

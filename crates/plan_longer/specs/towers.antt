@@ -6,7 +6,7 @@ use lib.ListN.{length}
 use Rattle.meaning.specs.declared.Edition.{Edition}
 use Rattle.meaning.specs.Bytes.{countOf}
 use Rattle.meaning.specs.Tree.{Blob, leavesOf, lengthOf}
-use Rattle.meaning.specs.Shape.{total, most, Shaped}
+use Rattle.meaning.specs.Shape.{total, mostCount, Shaped}
 use Rattle.meaning.specs.Resize.{share}
 use Rattle.laws_resize.specs.growth.Cuts.{heightOfLength}
 use Rattle.laws_resize.specs.growth.Slots.{taken}
@@ -27,5 +27,5 @@ pub record Towers (e : Edition) (g : Growth) (t : Tower) : Type 0 where
 -- the root's block as it was: not too full, and as a leaf within its share of the new length
 pub record RootBlock (e : Edition) (g : Growth) (t : Tower) (kept : List ℕ) : Type 0 where
   pub size : length kept ≡ e .size
-  pub most : countOf kept ≤ most e (t .height)
+  pub most : countOf kept ≤ mostCount e (t .height)
   pub share : t .height ≡ 0 → countOf kept ≤ share e (g .length) 0

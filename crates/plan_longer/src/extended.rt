@@ -13,7 +13,7 @@ ghost use lib.ListN.{length};
 ghost use Rattle.meaning.specs.Lists.{joined, bytes, padded, pasted};
 ghost use Rattle.meaning.specs.Edition.{Proper};
 ghost use Rattle.meaning.specs.Bytes.{countOf, dataOf, childrenOf};
-ghost use Rattle.meaning.specs.Shape.{most};
+ghost use Rattle.meaning.specs.Shape.{mostCount};
 ghost use Rattle.meaning.specs.Resize.{share};
 ghost use Rattle.laws.proofs.Codec.{rowOf};
 ghost use Rattle.laws_resize.specs.growth.Forms.{every, bulk, room, space, places, grownRow};
@@ -25,7 +25,7 @@ fn grown_leaf(e: Edition, long: usize, block: &[u8], payload: &mut [u8], first: 
     requires { ⌜ Proper e ⌝ }
     requires { ⌜ (length (now payload) ≡ e .leaf) × (first ≤ 2 ^ 50) ⌝ }
     requires { ⌜ (length (now block) ≡ e .size) × (countOf (now block) ≤ share e long first) ⌝ }
-    ensures { λ r. ⌜ Draws e (record { height = 0; row = padded (share e long first) (dataOf (now (block .entry))) }) r (now (payload .exit)) ⌝ }
+    ensures { λ r. ⌜ Draws e (record { height = 0; items = padded (share e long first) (dataOf (now (block .entry))) }) r (now (payload .exit)) ⌝ }
 {
     let filled = payload::share_of(e, long, first);
     payload::copy_payload(payload, block, fields::count_of(block));
@@ -71,7 +71,7 @@ fn grown_inner(
     requires { ⌜ Grows e g ⌝ }
     requires { ⌜ (length (now payload) ≡ e .leaf) × (below < 255) × (e .fan ^ below ≤ 2 ^ 50) ⌝ }
     requires { ⌜ (length (now block) ≡ e .size) × (countOf (now block) ≤ e .fan) ⌝ }
-    ensures { λ r. ⌜ Draws e (record { height = suc below; row = grownRow e (g .length) (g .leaves) (now (free .entry)) (suc below) 0 (childrenOf (now (block .entry))) }) r (now (payload .exit)) ⌝ }
+    ensures { λ r. ⌜ Draws e (record { height = suc below; items = grownRow e (g .length) (g .leaves) (now (free .entry)) (suc below) 0 (childrenOf (now (block .entry))) }) r (now (payload .exit)) ⌝ }
 {
     let count = fields::count_of(block);
     payload::copy_payload(payload, block, 4 * count);
@@ -95,8 +95,8 @@ pub fn draw_grown(
     requires { ⌜ Proper e ⌝ }
     requires { ⌜ Grows e g ⌝ }
     requires { ⌜ (length (now payload) ≡ e .leaf) × (h < 256) × (e .fan ^ h ≤ 2 ^ 50) × (first ≤ 2 ^ 50) ⌝ }
-    requires { ⌜ (length (now block) ≡ e .size) × (countOf (now block) ≤ most e h) × (h ≡ 0 → countOf (now block) ≤ share e (g .length) first) ⌝ }
-    ensures { λ r. ⌜ Draws e (record { height = h; row = grownRow e (g .length) (g .leaves) (now (free .entry)) h first (rowOf h (now (block .entry))) }) r (now (payload .exit)) ⌝ }
+    requires { ⌜ (length (now block) ≡ e .size) × (countOf (now block) ≤ mostCount e h) × (h ≡ 0 → countOf (now block) ≤ share e (g .length) first) ⌝ }
+    ensures { λ r. ⌜ Draws e (record { height = h; items = grownRow e (g .length) (g .leaves) (now (free .entry)) h first (rowOf h (now (block .entry))) }) r (now (payload .exit)) ⌝ }
 {
     if h == 0 {
         return grown_leaf(e, g.length, block, payload, first);

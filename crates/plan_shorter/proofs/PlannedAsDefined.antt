@@ -68,9 +68,9 @@ module _ (e : Edition) (p : Proper e) (n : ℕ) (P R : List ℕ) (r len k : ℕ)
       change s = changed e R 1 s (held (cellsOf b) s) (resizedHeld e R free b (c .length) s)
 
       -- the root
-      root-count : sameCell (record { height = b .height; row = rootRow b }) (shorterRoot e b (c .length))
+      root-count : sameCell (record { height = b .height; items = rootRow b }) (shorterRoot e b (c .length))
           ≡ both (eqb (shorterRoot e b (c .length) .height) (heightOf (block e P (rootOf b))))
-          (eqb (length (shorterRoot e b (c .length) .row)) (countOf (block e P (rootOf b))))
+          (eqb (length (shorterRoot e b (c .length) .items)) (countOf (block e P (rootOf b))))
       unfolding shorterRoot
       root-count =
           let f = g .fit (rootOf b) _ (root-site e p b (g .standing .shaped) (g .standing .once)) in
@@ -81,7 +81,7 @@ module _ (e : Edition) (p : Proper e) (n : ℕ) (P R : List ℕ) (r len k : ℕ)
       root-same s is =
           subst (λ (t : ℕ). renewal e R t (block e P t) (rootEnd e c hs fs kept r P R) ≡ change t) (sym is)
           (rw root-end
-          (renewal-same e R (rootOf b) (block e P (rootOf b)) (record { height = b .height; row = rootRow b }) (shorterRoot e b (c .length)) root-count
+          (renewal-same e R (rootOf b) (block e P (rootOf b)) (record { height = b .height; items = rootRow b }) (shorterRoot e b (c .length)) root-count
           ∙ sym (cut-root e p R b (g .standing) free (c .length) short)))
 
       -- another block of the blob
@@ -108,11 +108,11 @@ module _ (e : Edition) (p : Proper e) (n : ℕ) (P R : List ℕ) (r len k : ℕ)
             let h = getD hs s 0 - 1 in
             let old = rowOf h (block e P s) in
             let new = cutRow e (c .length) h (getD fs s 0) old in
-            let same : sameCell (record { height = h; row = old }) (record { height = h; row = new })
+            let same : sameCell (record { height = h; items = old }) (record { height = h; items = new })
             ≡ both (eqb h (heightOf (block e P s))) (eqb (length new) (countOf (block e P s))) =
             rw (eq-eqb h (heightOf (block e P s)) (sym (f .0 .height)), ← f .2) (same-cut e (c .length) h (getD fs s 0) old) in
-            renewal-same e R s (block e P s) (record { height = h; row = old }) (record { height = h; row = new }) same
-            ∙ sym (cut-kept e p R b (g .standing) free (c .length) short s site (record { height = h; row = new }) found not-root stays)
+            renewal-same e R s (block e P s) (record { height = h; items = old }) (record { height = h; items = new }) same
+            ∙ sym (cut-kept e p R b (g .standing) free (c .length) short s site (record { height = h; items = new }) found not-root stays)
 
         -- either
         other-same : pick (leb (c .leaves) (getD fs s 0)) (freed e R s ∷ [])

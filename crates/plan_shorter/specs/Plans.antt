@@ -9,7 +9,7 @@ use Rattle.meaning.specs.declared.Edition.{Edition}
 use Rattle.meaning.specs.Lists.{pick, both}
 use Rattle.meaning.specs.Bytes.{Cell, block, countOf, lastVersion}
 use Rattle.meaning.specs.Change.{Change, freed}
-use Rattle.meaning.specs.Shape.{most}
+use Rattle.meaning.specs.Shape.{mostCount}
 use Rattle.laws.proofs.Codec.{rowOf}
 use Rattle.laws_resize.specs.growth.Cuts.{cutRow}
 use Rattle.plan_slot.specs.declared.turn.Turn.{Turn}
@@ -20,7 +20,7 @@ use Rattle.plan_tree.specs.declared.cuts.Cut.{Cut}
 -- the block whose row the root takes is not too full
 pub record KeptBlock (e : Edition) (c : Cut) (kept : List ℕ) : Type 0 where
   pub size : length kept ≡ e .size
-  pub most : countOf kept ≤ most e (c .top)
+  pub most : countOf kept ≤ mostCount e (c .top)
 
 -- a slot can be planned: its place is there, and if its height is noted its block is not too full
 pub record Here (e : Edition) (P hs fs : List ℕ) (s : ℕ) : Type 0 where
@@ -28,7 +28,7 @@ pub record Here (e : Edition) (P hs fs : List ℕ) (s : ℕ) : Type 0 where
   pub heights : s < length hs
   pub firsts : s < length fs
   pub power : e .fan ^ (getD hs s 0 - 1) ≤ 2 ^ 50
-  pub most : (getD hs s 0 ≡ 0 → ⊥) → countOf (block e P s) ≤ most e (getD hs s 0 - 1)
+  pub most : (getD hs s 0 ≡ 0 → ⊥) → countOf (block e P s) ≤ mostCount e (getD hs s 0 - 1)
 
 -- a turn of slot s can be carried out if the versions of the blob's slots can rise
 pub record Rising (hs : List ℕ) (s : ℕ) (t : Turn) : Type 0 where
@@ -37,13 +37,13 @@ pub record Rising (hs : List ℕ) (s : ℕ) (t : Turn) : Type 0 where
 module _ (e : Edition) (c : Cut) (hs fs kept : List ℕ) (root : ℕ) (P R : List ℕ) where
   -- what the root holds in the end
   unfoldable pub rootEnd : Cell
-  rootEnd = record { height = c .top; row = cutRow e (c .length) (c .top) 0 (rowOf (c .top) kept) }
+  rootEnd = record { height = c .top; items = cutRow e (c .length) (c .top) 0 (rowOf (c .top) kept) }
 
   -- what another block of the blob holds that stays
   unfoldable pub oldEnd : ℕ → Cell
   oldEnd s =
       let h = getD hs s 0 - 1 in
-      record { height = h; row = cutRow e (c .length) h (getD fs s 0) (rowOf h (block e P s)) }
+      record { height = h; items = cutRow e (c .length) h (getD fs s 0) (rowOf h (block e P s)) }
 
   -- what slot s becomes: past the cut, or where the root comes down, its block goes
   unfoldable pub cutPlan : ℕ → List Change

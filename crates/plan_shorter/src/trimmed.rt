@@ -10,7 +10,7 @@ ghost use Prim.Native.Nat.{suc, _+_, _-_, _*_, _^_, _≤_, _<_};
 ghost use lib.ListN.{length, take};
 ghost use Rattle.meaning.specs.Edition.{Proper};
 ghost use Rattle.meaning.specs.Bytes.{countOf, dataOf, childrenOf};
-ghost use Rattle.meaning.specs.Shape.{up, leavesFor, most};
+ghost use Rattle.meaning.specs.Shape.{up, leavesFor, mostCount};
 ghost use Rattle.laws.proofs.Codec.{rowOf};
 ghost use Rattle.laws_resize.specs.growth.Cuts.{cutRow};
 ghost use Rattle.plan_slot.specs.payload.{Draws};
@@ -20,7 +20,7 @@ fn cut_leaf(e: Edition, short: usize, block: &[u8], payload: &mut [u8], first: u
     requires { ⌜ Proper e ⌝ }
     requires { ⌜ (length (now payload) ≡ e .leaf) × (first ≤ 2 ^ 50) ⌝ }
     requires { ⌜ (length (now block) ≡ e .size) × (countOf (now block) ≤ e .leaf) ⌝ }
-    ensures { λ r. ⌜ Draws e (record { height = 0; row = cutRow e short 0 first (dataOf (now (block .entry))) }) r (now (payload .exit)) ⌝ }
+    ensures { λ r. ⌜ Draws e (record { height = 0; items = cutRow e short 0 first (dataOf (now (block .entry))) }) r (now (payload .exit)) ⌝ }
 {
     let count = fields::count_of(block);
     let kept = number::least(count, payload::share_of(e, short, first));
@@ -43,7 +43,7 @@ fn cut_inner(
     requires { ⌜ Proper e ⌝ }
     requires { ⌜ (length (now payload) ≡ e .leaf) × (below < 255) × (e .fan ^ below ≤ 2 ^ 50) × (leaves ≤ 2 ^ 50) ⌝ }
     requires { ⌜ (length (now block) ≡ e .size) × (countOf (now block) ≤ e .fan) ⌝ }
-    ensures { λ r. ⌜ Draws e (record { height = suc below; row = take (up (leaves - first) (e .fan ^ below)) (childrenOf (now (block .entry))) }) r (now (payload .exit)) ⌝ }
+    ensures { λ r. ⌜ Draws e (record { height = suc below; items = take (up (leaves - first) (e .fan ^ below)) (childrenOf (now (block .entry))) }) r (now (payload .exit)) ⌝ }
 {
     let count = fields::count_of(block);
     let kept = subtrees::places(e.fan, leaves, count, below, first);
@@ -68,8 +68,8 @@ pub fn draw_cut(
     requires { ⌜ Proper e ⌝ }
     requires { ⌜ (leaves ≡ leavesFor (e .leaf) short) × (leaves ≤ 2 ^ 50) ⌝ }
     requires { ⌜ (length (now payload) ≡ e .leaf) × (h < 256) × (e .fan ^ h ≤ 2 ^ 50) × (first ≤ 2 ^ 50) ⌝ }
-    requires { ⌜ (length (now block) ≡ e .size) × (countOf (now block) ≤ most e h) ⌝ }
-    ensures { λ r. ⌜ Draws e (record { height = h; row = cutRow e short h first (rowOf h (now (block .entry))) }) r (now (payload .exit)) ⌝ }
+    requires { ⌜ (length (now block) ≡ e .size) × (countOf (now block) ≤ mostCount e h) ⌝ }
+    ensures { λ r. ⌜ Draws e (record { height = h; items = cutRow e short h first (rowOf h (now (block .entry))) }) r (now (payload .exit)) ⌝ }
 {
     if h == 0 {
         return cut_leaf(e, short, block, payload, first);

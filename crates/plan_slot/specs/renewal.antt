@@ -10,4 +10,4 @@ use Rattle.meaning.specs.Change.{Change, renewed}
 
 -- slot s, whose block is b, gets the cell c: nothing changes if height and count stay
 unfoldable pub renewal : Edition → (R : List ℕ) → (s : ℕ) → (b : List ℕ) → Cell → List Change
-renewal e R s b c = pick (both (eqb (c .height) (heightOf b)) (eqb (length (c .row)) (countOf b))) [] (renewed e R (state R s) s c ∷ [])
+renewal e R s b c = pick (both (eqb (c .height) (heightOf b)) (eqb (length (c .items)) (countOf b))) [] (renewed e R (state R s) s c ∷ [])

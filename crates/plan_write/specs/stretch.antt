@@ -38,7 +38,7 @@ stretched t d row = pasted (t .within) (part (t .from) (t .count) d) row
 
 -- a leaf
 abbrev pub leafCell : List ℕ → Cell
-leafCell row = record { height = 0; row = row }
+leafCell row = record { height = 0; items = row }
 
 -- what slot s becomes, if that stretch of it changes
 unfoldable pub putBy : Edition → (P R d : List ℕ) → ℕ → Stretch → List Change

@@ -45,7 +45,7 @@ use Rattle.promises.specs.Demands.{slotsAt, freeAt, newAt, Turns, Passes
 other-cell : (a c : Cell) → sameCell a c ≡ false → a ≡ c → ⊥
 unfolding sameCell
 other-cell a c t q =
-    let s = true-both (eqb (c .height) (c .height)) _ (eq-eqb (c .height) (c .height) refl) (same-self (c .row)) in
+    let s = true-both (eqb (c .height) (c .height)) _ (eq-eqb (c .height) (c .height) refl) (same-self (c .items)) in
     never (sym s ∙ rw q at t)
 
 -- what the changes of a slot make of it, by what it held and holds
@@ -127,7 +127,7 @@ module _ (e : Edition) (p : Proper e) (S : Store) where
       )
     where
       cell : (s : ℕ) → lowest (freeAt e S) ≡ s
-          → become e N P R 2 [] ((lowest (freeAt e S), record { height = 0; row = [] }) ∷ []) ≡ become e N P R 2 [] (cellsOf (emptyBlob s))
+          → become e N P R 2 [] ((lowest (freeAt e S), record { height = 0; items = [] }) ∷ []) ≡ become e N P R 2 [] (cellsOf (emptyBlob s))
       cell s q = unfold emptyBlob cellsOf cells in rw q
 
   -- the record of a slot that held a cell and holds none

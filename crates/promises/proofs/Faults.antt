@@ -17,7 +17,7 @@ use Rattle.meaning.specs.declared.Checked.the-variants.{Passed, Faulty}
 use Rattle.meaning.specs.Lists.{pick, both, range}
 use Rattle.meaning.specs.Bytes.{block, heightOf, childrenOf, state, recorded}
 use Rattle.meaning.specs.Refusals.{refusalOf, at, first}
-use Rattle.meaning.specs.Walk.{Found, fault, fine, andThen, passing, isEmpty, isRoot, linkCheck, blockCheck, oneVisit, row, visit, fromRoot, blobCheck}
+use Rattle.meaning.specs.Walk.{Found, fault, fine, andThen, passing, isEmpty, isRoot, linkCheck, blockCheck, oneVisit, visitRow, visit, fromRoot, blobCheck}
 use Rattle.meaning.specs.Walk.{roots, closingCheck, closing, poolCheck}
 use Rattle.laws.proofs.Inversions.{by-test, passed-faultless, fault-not-fine, must-faulty, block-fault, link-fault}
 
@@ -77,12 +77,12 @@ module _ (e : Edition) (N : ℕ) (P R : List ℕ) where
   -- a row, if its visits are
   row-numbered : {A : Type 0} (go : Role → Bool → List ℕ → ℕ → Found A)
       → ((role : Role) (edge : Bool) (seen : List ℕ) (s : ℕ) (q : Refusal) → go role edge seen s ≡ fault q → OfWalk q)
-      → (p : ℕ) (edge : Bool) (cs seen : List ℕ) (q : Refusal) → row e N P R go p edge cs seen ≡ fault q → OfWalk q
-  unfolding row
+      → (p : ℕ) (edge : Bool) (cs seen : List ℕ) (q : Refusal) → visitRow e N P R go p edge cs seen ≡ fault q → OfWalk q
+  unfolding visitRow
   row-numbered go each p edge [] seen q v = fault-not-fine (sym v)
   row-numbered go each p edge (c ∷ cs) seen q v =
       by-then (go (Child p) (both edge (isEmpty cs)) seen c) _ (OfWalk q) v (each (Child p) (both edge (isEmpty cs)) seen c q)
-      (λ t mid o w. by-then (row e N P R go p edge cs mid) _ (OfWalk q) w (row-numbered go each p edge cs mid q) (λ ts s o z. fault-not-fine (sym z)))
+      (λ t mid o w. by-then (visitRow e N P R go p edge cs mid) _ (OfWalk q) w (row-numbered go each p edge cs mid q) (λ ts s o z. fault-not-fine (sym z)))
 
   -- a visit
   visit-numbered : (h : ℕ) (role : Role) (edge : Bool) (seen : List ℕ) (s : ℕ) (q : Refusal) → visit e N P R h role edge seen s ≡ fault q → OfWalk q
@@ -91,7 +91,7 @@ module _ (e : Edition) (N : ℕ) (P R : List ℕ) where
       by-then (oneVisit e N P R zero role edge seen s) _ (OfWalk q) v (one-numbered zero role edge seen s q) (λ b mid o z. fault-not-fine (sym z))
   visit-numbered (suc h) role edge seen s q v =
       by-then (oneVisit e N P R (suc h) role edge seen s) _ (OfWalk q) v (one-numbered (suc h) role edge seen s q)
-      (λ b mid o w. by-then (row e N P R (visit e N P R h) s edge (childrenOf b) mid) _ (OfWalk q) w
+      (λ b mid o w. by-then (visitRow e N P R (visit e N P R h) s edge (childrenOf b) mid) _ (OfWalk q) w
       (row-numbered (visit e N P R h) (visit-numbered h) s edge (childrenOf b) mid q) (λ ts end o z. fault-not-fine (sym z)))
 
   -- a walk from a root

@@ -22,7 +22,7 @@ use Rattle.meaning.specs.Calls.{refusePast, refuseFull}
 use Rattle.meaning.specs.Calls.{lengthOn, lengthIn, readOn, readIn, showOn, showIn, auditOn, auditIn, createOn, createIn, writeOn, writeIn, resizeOn, resizeIn}
 use Rattle.meaning.specs.Calls.{deleteOn, deleteIn, lengthCall, readCall, showCall, auditCall, createCall, writeCall, resizeCall, deleteCall}
 use Rattle.meaning.specs.Answers.{refuses, shownPart}
-use Rattle.meaning.specs.Run.{Call, create, audit, write, resize, delete, length, read, showLeaf, saidBy, says}
+use Rattle.meaning.specs.Run.{Call, create, audit, write, resize, delete, tellLength, read, showLeaf, saidBy, says}
 use Rattle.laws.proofs.Inversions.{fine-same}
 use Rattle.laws_sound.proofs.sound.Pools.{pool-found}
 use Rattle.laws_sound.proofs.again.Outcomes.{sized-lengths, blob-among, among-met, among-walk}
@@ -240,7 +240,7 @@ module _ (e : Edition) (p : Proper e) (S : Store) where
         (λ young w. by-if (ltb (list.length (freeAt e S)) (newAt e S len b)) 11 _ (Table e S (resize r len) q) w
         (λ t k. row-11-resize r len b refl m young (ltb-true (list.length (freeAt e S)) (newAt e S len b) t) k) (λ t z. done-refused z))) o roots h;
   }
-  chain (length r) = record {
+  chain (tellLength r) = record {
     Value = ℕ;
     values = λ n. n ∷ [];
     inside = lengthIn e N P R r;
@@ -248,7 +248,7 @@ module _ (e : Edition) (p : Proper e) (S : Store) where
     is = unfold says lengthCall in refl;
     roots = inr (r, unfold named in refl, unfold lengthIn reading in refl);
     faults = λ q f. unfold walked in check-refused (blobAt e S r) _ q (one-fault (blobAt e S r) q f);
-    rest = λ q o roots h. reading-rest (length r) r (lengthOn e N P R) (unfold named in refl) (unfold walked in refl) q
+    rest = λ q o roots h. reading-rest (tellLength r) r (lengthOn e N P R) (unfold named in refl) (unfold walked in refl) q
         (λ b m w. unfold lengthOn in done-refused w) o roots h;
   }
   chain (read r offset size) = record {

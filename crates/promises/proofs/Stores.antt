@@ -19,7 +19,7 @@ use Rattle.meaning.specs.Change.{Change, Store}
 use Rattle.meaning.specs.Calls.{Outcome, refused, done, refuseIf, opened, reading, refusePast}
 use Rattle.meaning.specs.Calls.{lengthCall, lengthIn, lengthOn, readCall, readIn, readOn, showCall, showIn, showOn}
 use Rattle.meaning.specs.Answers.{yields, refuses, shownPart}
-use Rattle.meaning.specs.Run.{length, read, showLeaf, saidBy, says}
+use Rattle.meaning.specs.Run.{tellLength, read, showLeaf, saidBy, says}
 use Rattle.laws.proofs.Numbers.{part-part}
 use Rattle.laws.proofs.Walked.{mem-at, walk-here, LeafHere}
 use Rattle.laws_resize.proofs.resizing.SlotCounts.{times-cons}
@@ -125,7 +125,7 @@ module _ (e : Edition) (p : Proper e) (S : Store) (bs : List Blob) (b : Blob) (g
       opens-passes e P R _ (opens e S (g .0)) ∙ among-reading e N P R (rootOf b) bs k among ∙ ap k own
 
   -- length
-  pub gives-length : says e S (length (rootOf b)) ≡ yields (lengthOf b ∷ [])
+  pub gives-length : says e S (tellLength (rootOf b)) ≡ yields (lengthOf b ∷ [])
   unfolding says lengthCall lengthIn lengthOn saidBy
   gives-length = ap (saidBy (λ n. n ∷ [])) (reads (lengthOn e N P R))
 

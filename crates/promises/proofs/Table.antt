@@ -19,7 +19,7 @@ use Rattle.meaning.specs.Calls.{Outcome, refused, done, after, sized, refusePas
 use Rattle.meaning.specs.Calls.{readOn, readIn, showOn, showIn, createOn, createIn, writeOn, writeIn, resizeOn, resizeIn}
 use Rattle.meaning.specs.Calls.{lengthCall, readCall, showCall, auditCall, createCall, writeCall, resizeCall, deleteCall}
 use Rattle.meaning.specs.Answers.{Said, yields, refuses, shownPart}
-use Rattle.meaning.specs.Run.{Call, create, audit, write, resize, delete, length, read, showLeaf, saidBy, says, perform}
+use Rattle.meaning.specs.Run.{Call, create, audit, write, resize, delete, tellLength, read, showLeaf, saidBy, says, perform}
 use Rattle.laws.proofs.OneToOne.{length-said-same, audit-said-same, created-said-same, changed-said-same, finished-said-same, leaf-said-same}
 use Rattle.promises.proofs.Stores.{said-refused, refused-said}
 use Rattle.promises.proofs.Faults.{OfWalk, blob-numbered, pool-numbered}
@@ -118,7 +118,7 @@ module _ (e : Edition) (p : Proper e) (S : Store) where
   walk-numbered (write r offset d) q h = pool-numbered e N P R q h
   walk-numbered (resize r len) q h = pool-numbered e N P R q h
   walk-numbered (delete r) q h = pool-numbered e N P R q h
-  walk-numbered (length r) q h = blob-numbered e N P R r q (one-fault (blobAt e S r) q h)
+  walk-numbered (tellLength r) q h = blob-numbered e N P R r q (one-fault (blobAt e S r) q h)
   walk-numbered (read r offset size) q h = blob-numbered e N P R r q (one-fault (blobAt e S r) q h)
   walk-numbered (showLeaf r k) q h = blob-numbered e N P R r q (one-fault (blobAt e S r) q h)
 
@@ -175,7 +175,7 @@ module _ (e : Edition) (p : Proper e) (S : Store) where
   call-untouched (write r offset d) q h = refused-after _ (writeCall e P R r offset d) q h
   call-untouched (resize r len) q h = refused-after _ (resizeCall e P R r len) q h
   call-untouched (delete r) q h = refused-after _ (deleteCall e P R r) q h
-  call-untouched (length r) q h = refused-after _ (lengthCall e P R r) q h
+  call-untouched (tellLength r) q h = refused-after _ (lengthCall e P R r) q h
   call-untouched (read r offset size) q h = refused-after _ (readCall e P R r offset size) q h
   call-untouched (showLeaf r k) q h = refused-after _ (showCall e P R r k) q h
 

@@ -15,7 +15,7 @@ use Rattle.meaning.specs.Walk.{fine, blobCheck, poolCheck}
 use Rattle.meaning.specs.Change.{Store}
 use Rattle.meaning.specs.Calls.{Outcome, refused, done, slotsIn, sized, auditCall}
 use Rattle.meaning.specs.Answers.{yields, refuses, shownPart}
-use Rattle.meaning.specs.Run.{Call, audit, length, read, showLeaf, saidBy, says, run}
+use Rattle.meaning.specs.Run.{Call, audit, tellLength, read, showLeaf, saidBy, says, run}
 use Rattle.laws_history.proofs.WalkOrder.{Each, each-mem}
 use Rattle.laws_history.proofs.Local.{Same}
 use Rattle.laws_history.proofs.Started.{blank, held, FromRun, run-slots}
@@ -80,7 +80,7 @@ shown-said e P P* (done v cs) o* q h = rw q (ap (λ (l : List ℕ). yields (v .0
 -- each reading call of a blob
 module _ (e : Edition) (N : ℕ) (S : Store) (P* : List ℕ) (r : ℕ) (a : Answers e N (S .pool) P* (S .records) r) where
   -- length
-  length-told : Told e S P* (a .blob) (length r)
+  length-told : Told e S P* (a .blob) (tellLength r)
   unfolding says
   length-told =
       let t = said-told e (S .pool) P* (S .records) (a .blob) _ _ (a .length) (λ n. n ∷ []) (λ n. n ∷ [])
@@ -105,7 +105,7 @@ module _ (e : Edition) (N : ℕ) (S : Store) (P* : List ℕ) (r : ℕ) (a : Answ
       record { answers = t .0; refuses = t .1 }
 
   -- any of them
-  told : (offset size k : ℕ) (c : Call) → List·Memᴰ c (length r ∷ read r offset size ∷ showLeaf r k ∷ []) → Told e S P* (a .blob) c
+  told : (offset size k : ℕ) (c : Call) → List·Memᴰ c (tellLength r ∷ read r offset size ∷ showLeaf r k ∷ []) → Told e S P* (a .blob) c
   told offset size k c (List·Memᴰ·head q) = subst (Told e S P* (a .blob)) (sym q) length-told
   told offset size k c (List·Memᴰ·tail (List·Memᴰ·head q)) = subst (Told e S P* (a .blob)) (sym q) (read-told offset size)
   told offset size k c (List·Memᴰ·tail (List·Memᴰ·tail (List·Memᴰ·head q))) = subst (Told e S P* (a .blob)) (sym q) (leaf-told k)
@@ -129,7 +129,7 @@ module _ (e : Edition) (p : Proper e) (S₀ : Store) (good : sized e (S₀ .pool
   -- length, read and show
   pub reading-told : (r : ℕ) → state (S .records) r ≡ 2
       → (b : Blob) × (seen : List ℕ) × (blobCheck e (slotsIn e (S .pool)) (S .pool) (S .records) r ≡ fine b seen)
-      × ((offset size k : ℕ) (c : Call) → List·Memᴰ c (length r ∷ read r offset size ∷ showLeaf r k ∷ []) → Told e S P* b c)
+      × ((offset size k : ℕ) (c : Call) → List·Memᴰ c (tellLength r ∷ read r offset size ∷ showLeaf r k ∷ []) → Told e S P* b c)
   reading-told r root =
       let n : ℕ = slotsIn e (S₀ .pool) in
       let a = reading-demand e p S₀ good calls S moment _ _ checks P* size filled r root in

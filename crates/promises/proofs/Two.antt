@@ -16,7 +16,7 @@ use Rattle.meaning.specs.Walk.{fine, blobCheck}
 use Rattle.meaning.specs.Change.{Store}
 use Rattle.meaning.specs.Calls.{sized, newBlocks, live}
 use Rattle.meaning.specs.Answers.{yields}
-use Rattle.meaning.specs.Run.{Call, audit, write, resize, length, read, saidBy, says, perform, run, bookOf, blocksOf}
+use Rattle.meaning.specs.Run.{Call, audit, write, resize, tellLength, read, saidBy, says, perform, run, bookOf, blocksOf}
 use Rattle.laws.proofs.Parts.{pasted-length, part-pasted}
 use Rattle.laws.proofs.Codec.{padded-length}
 use Rattle.laws.proofs.Heights.{height-enough, height-least}
@@ -67,14 +67,14 @@ made-alive e S S′ taken gone b old new c = (c .before ++ (b ∷ c .after), c .
 
 -- after a resize, the length
 length-then : (e : Edition) → Proper e → (S : Store) (r len : ℕ) (vs : List ℕ) → says e S (resize r len) ≡ yields vs
-    → says e (perform e S (resize r len)) (length r) ≡ yields (len ∷ [])
+    → says e (perform e S (resize r len)) (tellLength r) ≡ yields (len ∷ [])
 unfolding lengthOf
 length-then e p S r len vs h =
     let (b, b′, at, stays, is, bytes, old, new, c, f) = resize-turns e p S r len vs h in
     let (bs, g, m) = made-alive e S (perform e S (resize r len)) 1 (b ∷ []) b′ (cellsOf b) (cellsOf b′) c in
     let says-so = gives-length e p (perform e S (resize r len)) bs b′ g m in
     let long : lengthOf b′ ≡ len = ap list.length bytes ∙ padded-length len (contentOf b) in
-    subst (λ (s : ℕ). says e (perform e S (resize r len)) (length s) ≡ yields (len ∷ [])) stays (says-so ∙ ap (λ (n : ℕ). yields (n ∷ [])) long)
+    subst (λ (s : ℕ). says e (perform e S (resize r len)) (tellLength s) ≡ yields (len ∷ [])) stays (says-so ∙ ap (λ (n : ℕ). yields (n ∷ [])) long)
 
 -- after a write, the bytes
 bytes-then : (e : Edition) → Proper e → (S : Store) (r offset : ℕ) (d vs : List ℕ) → says e S (write r offset d) ≡ yields vs

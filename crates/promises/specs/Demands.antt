@@ -16,7 +16,7 @@ use Rattle.meaning.specs.Change.{Store}
 use Rattle.meaning.specs.Resize as resizing
 use Rattle.meaning.specs.Calls.{Outcome, refused, slotsIn, sized, usable, live, newBlocks, wipeCall, wiped, afterWipe}
 use Rattle.meaning.specs.Answers.{Ends, Reads, Said, yields, refuses, lengthSaid, auditSaid, createdSaid, changedSaid, finishedSaid, leafSaid}
-use Rattle.meaning.specs.Run.{Call, create, audit, write, resize, delete, length, read, showLeaf, says, perform, run, bookOf, blocksOf}
+use Rattle.meaning.specs.Run.{Call, create, audit, write, resize, delete, tellLength, read, showLeaf, says, perform, run, bookOf, blocksOf}
 use Rattle.meaning.specs.declared.Edition.{Edition}
 use Rattle.meaning.specs.declared.Named.the-variants.{Slot}
 use Rattle.meaning.specs.declared.Refusal.{Refusal}
@@ -48,7 +48,7 @@ named audit = []
 named (write r offset d) = r ∷ []
 named (resize r len) = r ∷ []
 named (delete r) = r ∷ []
-named (length r) = r ∷ []
+named (tellLength r) = r ∷ []
 named (read r offset size) = r ∷ []
 named (showLeaf r k) = r ∷ []
 
@@ -62,7 +62,7 @@ walked e S audit = poolAt e S
 walked e S (write r offset d) = poolAt e S
 walked e S (resize r len) = poolAt e S
 walked e S (delete r) = poolAt e S
-walked e S (length r) = andThen (blobAt e S r) (λ b seen. fine (b ∷ []) seen)
+walked e S (tellLength r) = andThen (blobAt e S r) (λ b seen. fine (b ∷ []) seen)
 walked e S (read r offset size) = andThen (blobAt e S r) (λ b seen. fine (b ∷ []) seen)
 walked e S (showLeaf r k) = andThen (blobAt e S r) (λ b seen. fine (b ∷ []) seen)
 
@@ -174,7 +174,7 @@ pub record DemandTwo (e : Edition) : Type 0 where
   pub blocks : (b : Blob) → Shaped e b → list.length (slotsOf b) ≡ total (e .fan) (leavesFor (e .leaf) (lengthOf b))
   pub one-shape : (a b : Blob) → Shaped e a → Shaped e b → lengthOf a ≡ lengthOf b → shapeOf a ≡ shapeOf b
   -- length, read and show of a blob give its length, its bytes and its leaf's bytes
-  pub gives-length : (S : Store) (bs : List Blob) (b : Blob) → Passes e S bs → List·Memᴰ b bs → says e S (length (rootOf b)) ≡ yields (lengthOf b ∷ [])
+  pub gives-length : (S : Store) (bs : List Blob) (b : Blob) → Passes e S bs → List·Memᴰ b bs → says e S (tellLength (rootOf b)) ≡ yields (lengthOf b ∷ [])
   pub gives-bytes : (S : Store) (bs : List Blob) (b : Blob) → Passes e S bs → List·Memᴰ b bs → (offset size : ℕ) → offset + size ≤ lengthOf b
       → says e S (read (rootOf b) offset size) ≡ yields (part offset size (contentOf b))
   pub gives-leaf : (S : Store) (bs : List Blob) (b : Blob) → Passes e S bs → List·Memᴰ b bs → (k s : ℕ) (d : List ℕ) → k < list.length (leavesOf b)
@@ -199,7 +199,7 @@ pub record DemandTwo (e : Edition) : Type 0 where
       → (b : Blob) × (rootOf b ≡ r) × Became e S (perform e S (delete r)) 1 (b ∷ []) [] (cellsOf b) [] × Freed e S (perform e S (delete r)) b []
   -- so a length given is the length then, and bytes written are the bytes read
   pub then-length : (S : Store) (r len : ℕ) (vs : List ℕ) → says e S (resize r len) ≡ yields vs
-      → says e (perform e S (resize r len)) (length r) ≡ yields (len ∷ [])
+      → says e (perform e S (resize r len)) (tellLength r) ≡ yields (len ∷ [])
   pub then-bytes : (S : Store) (r offset : ℕ) (d vs : List ℕ) → says e S (write r offset d) ≡ yields vs
       → says e (perform e S (write r offset d)) (read r offset (list.length d)) ≡ yields d
   -- new blocks needed are the difference of the block totals; none for a length that is not longer
@@ -245,5 +245,5 @@ pub record DemandThree (e : Edition) : Type 0 where
   pub told : (S₀ : Store) → sized e (S₀ .pool) (S₀ .records) ≡ true → (calls : List Call) (S : Store) → List·Memᴰ S (run e S₀ calls)
       → (P* : List ℕ) → list.length P* ≡ list.length (S .pool) → Filled e S₀ calls P*
       → ((r : ℕ) → state (S .records) r ≡ 2 → (b : Blob) × (seen : List ℕ) × (blobAt e S r ≡ fine b seen)
-      × ((offset size k : ℕ) (c : Call) → List·Memᴰ c (length r ∷ read r offset size ∷ showLeaf r k ∷ []) → Told e S P* b c))
+      × ((offset size k : ℕ) (c : Call) → List·Memᴰ c (tellLength r ∷ read r offset size ∷ showLeaf r k ∷ []) → Told e S P* b c))
       × (((vs : List ℕ) × (says e (reader P* S) audit ≡ yields vs)) ↔ (P* ≡ S .pool))

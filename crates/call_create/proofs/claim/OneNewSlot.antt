@@ -11,7 +11,7 @@ use mir.Syntax.{w64}
 use mir.Val.{Fits}
 use Rattle.meaning.specs.Lists.{pick, range, filter, joined}
 use Rattle.meaning.specs.Edition.{Proper}
-use Rattle.meaning.specs.Bytes.{encoded, blockBytes, rowBytes, recordAt, recordOf, recordedOf, recorded, state, usableSlot, lastVersion}
+use Rattle.meaning.specs.Bytes.{encoded, blockBytes, itemBytes, recordAt, recordOf, recordedOf, recorded, state, usableSlot, lastVersion}
 use Rattle.meaning.specs.Tree.{held}
 use Rattle.meaning.specs.Refusals.{nowhere}
 use Rattle.meaning.specs.Change.{Change, put, puts, renewed, changed, changedBy}
@@ -21,7 +21,7 @@ use Rattle.meaning.specs.Answers.{createAnswer, Ends}
 use Rattle.meaning.specs.declared.Edition.{Edition}
 use Rattle.meaning.specs.declared.Refusal.{Refusal}
 use Rattle.meaning.specs.declared.Created.{Created}
-use Rattle.meaning.specs.declared.Created.the-variants as created
+use Rattle.meaning.specs.declared.Created.the-variants as createdCase
 use Rattle.laws.proofs.Inversions.{by-test, both-true}
 use Rattle.check_gate.specs.Gate.{Whole}
 use Rattle.check_blob.proofs.visit.VisitAsDefined.{slot-fits}
@@ -86,7 +86,7 @@ at-none [] e = refl
 at-none (x ∷ l) e = absurd (let z : _≡_ {A = ℕ} 0 1 = cc in omega arith)
 
 module _ (e : Edition) (p : Proper e) (n : ℕ) (P R : List ℕ) (w : Whole e n P R) (x : Free) (ex : x ≡ lowestOf (usableFrom R 0 n)) where
-  pub create-full : x ≡ Nowhere → (q : Refusal) → q ≡ nowhere 11 → Ends e createAnswer (createOn e n P R []) P R (created.Refused q) P R
+  pub create-full : x ≡ Nowhere → (q : Refusal) → q ≡ nowhere 11 → Ends e createAnswer (createOn e n P R []) P R (createdCase.Refused q) P R
   unfolding createOn refuseFull refuseIf createAnswer after
   create-full z q eq =
       let u : usable e n P R ≡ [] = sym (usable-all e n P R) ∙ at-none (usableFrom R 0 n) (sym z ∙ ex) in
@@ -123,14 +123,14 @@ module _ (e : Edition) (p : Proper e) (n : ℕ) (P R : List ℕ) (w : Whole e n 
           let b : recorded R s < 2 ^ 64 - 1 = ltb-true (recorded R s) (2 ^ 64 - 1) (both-true (eqb (state R s) 0) _ (is-usable .0) .1) in
           record { fits = omega (arith, version-is) }
 
-      change : become e n P R 2 [] ((s, record { height = 0; row = [] }) ∷ []) ≡ renewed e R 2 s (record { height = 0; row = [] }) ∷ []
+      change : become e n P R 2 [] ((s, record { height = 0; items = [] }) ∷ []) ≡ renewed e R 2 s (record { height = 0; items = [] }) ∷ []
       unfolding become changed held pick
       change =
-          changes-over e R 2 (held []) (held ((s, record { height = 0; row = [] }) ∷ [])) 0 n
-          ∙ over-one (λ j. changed e R 2 j (held [] j) (held ((s, record { height = 0; row = [] }) ∷ []) j)) (renewed e R 2 s (record { height = 0; row = [] })) s 0 n
+          changes-over e R 2 (held []) (held ((s, record { height = 0; items = [] }) ∷ [])) 0 n
+          ∙ over-one (λ j. changed e R 2 j (held [] j) (held ((s, record { height = 0; items = [] }) ∷ []) j)) (renewed e R 2 s (record { height = 0; items = [] })) s 0 n
           (omega arith) (omega (arith, inside)) (simp (eq-eqb s s refl)) (λ j d. simp (ne-eqb s j (λ q. d (sym q))))
 
-      outcome : createOn e n P R [] ≡ done s (renewed e R 2 s (record { height = 0; row = [] }) ∷ [])
+      outcome : createOn e n P R [] ≡ done s (renewed e R 2 s (record { height = 0; items = [] }) ∷ [])
       unfolding createOn refuseFull refuseIf lowest
       outcome =
           let u : usable e n P R ≡ s ∷ slot .0 = sym (usable-all e n P R) ∙ slot .1 in
@@ -139,8 +139,8 @@ module _ (e : Edition) (p : Proper e) (n : ℕ) (P R : List ℕ) (w : Whole e n 
           rw (f, l, change)
 
       pub create-done : (P′ R′ none : List ℕ) → none ≡ [] → P′ ≡ put (e .size) s (blockBytes e 0 0 s (v + 1) none) P → R′ ≡ put 12 s (recordOf 2 (v + 1)) R
-          → Ends e createAnswer (createOn e n P R []) P R (created.At s) P′ R′
-      unfolding createAnswer after changedBy puts renewed encoded rowBytes
+          → Ends e createAnswer (createOn e n P R []) P R (createdCase.At s) P′ R′
+      unfolding createAnswer after changedBy puts renewed encoded itemBytes
       create-done P′ R′ none en ep er′ =
           record {
             answer = rw outcome;

@@ -10,7 +10,7 @@ use lib.Dec.{ltb}
 use lib.ListN.{length, take, drop}
 use Rattle.meaning.specs.declared.Edition.{Edition}
 use Rattle.meaning.specs.declared.Refusal.{Refusal}
-use Rattle.meaning.specs.declared.Changed.the-variants as changed
+use Rattle.meaning.specs.declared.Changed.the-variants as changedCase
 use Rattle.meaning.specs.Shape.{leavesFor, total}
 use Rattle.meaning.specs.Tree.{Blob}
 use Rattle.meaning.specs.Refusals.{nowhere}
@@ -43,7 +43,7 @@ module _ (e : Edition) (n : ℕ) (P R : List ℕ) (r bytes leaves : ℕ) (hs fs 
   on-blob = known-changing e n P R r bytes leaves (g .row) hs fs (g .known) (resizeOn e n P R len)
 
   -- refusal 12
-  worn-ends : wornAmong R hs n ≡ true → Ends e changeAnswer (resizeIn e n P R r len) P R (changed.Refused (nowhere 12)) P R
+  worn-ends : wornAmong R hs n ≡ true → Ends e changeAnswer (resizeIn e n P R r len) P R (changedCase.Refused (nowhere 12)) P R
   unfolding resizeOn changeAnswer after
   worn-ends is =
       let u : resizeIn e n P R r len ≡ refused (nowhere 12) = on-blob ∙ worn-refused e n P R r bytes leaves (g .row) hs fs (g .known) is _ in
@@ -60,7 +60,7 @@ module _ (e : Edition) (n : ℕ) (P R : List ℕ) (r bytes leaves : ℕ) (hs fs 
 
     -- refusal 11
     full-ends : wornAmong R hs n ≡ false → lacking e R hs n leaves len free ≡ true
-        → Ends e changeAnswer (resizeIn e n P R r len) P R (changed.Refused (nowhere 11)) P R
+        → Ends e changeAnswer (resizeIn e n P R r len) P R (changedCase.Refused (nowhere 11)) P R
     unfolding refuseFull refuseIf changeAnswer after
     full-ends sound is =
         let u : resizeIn e n P R r len ≡ refused (nowhere 11) = unworn sound ∙ rw (← room, is) in
@@ -69,7 +69,7 @@ module _ (e : Edition) (n : ℕ) (P R : List ℕ) (r bytes leaves : ℕ) (hs fs 
     module _ (number : ℕ) (en : number ≡ resizeBarred e R hs n leaves len free) where
       -- refused with that number
       pub resize-barred : (number ≡ 0 → ⊥) → (q : Refusal) → q ≡ nowhere number
-          → Ends e changeAnswer (resizeIn e n P R r len) P R (changed.Refused q) P R
+          → Ends e changeAnswer (resizeIn e n P R r len) P R (changedCase.Refused q) P R
       resize-barred some q eq =
           by-test (wornAmong R hs n)
           (λ t. rw (eq, en, ← resize-worn e R hs n leaves len free _ refl t) (worn-ends t))
@@ -93,7 +93,7 @@ module _ (e : Edition) (n : ℕ) (P R : List ℕ) (r bytes leaves : ℕ) (hs fs 
 
         -- done
         pub resize-done : (P′ R′ : List ℕ) → P′ ≡ puts (e .size) (λ c. c .block) after-resize P → R′ ≡ puts 12 (λ c. c .line) after-resize R
-            → Ends e changeAnswer (resizeIn e n P R r len) P R changed.Done P′ R′
+            → Ends e changeAnswer (resizeIn e n P R r len) P R changedCase.Done P′ R′
         unfolding refuseFull refuseIf changeAnswer after changedBy
         resize-done P′ R′ ep er =
             let u : resizeIn e n P R r len ≡ done tt after-resize =

@@ -12,7 +12,7 @@ use Rattle.meaning.specs.Lists.{pick}
 use Rattle.meaning.specs.Edition.{Proper}
 use Rattle.meaning.specs.Bytes.{Cell, block, heightOf, countOf, recorded, lastVersion}
 use Rattle.meaning.specs.Tree.{Blob, leavesOf, cellsOf, lengthOf, just, held}
-use Rattle.meaning.specs.Shape.{leavesFor, heightFor, most}
+use Rattle.meaning.specs.Shape.{leavesFor, heightFor, mostCount}
 use Rattle.meaning.specs.Change.{Change, puts}
 use Rattle.meaning.specs.Resize.{resized}
 use Rattle.meaning.specs.Calls.{usable, become}
@@ -128,7 +128,7 @@ module _ (e : Edition) (p : Proper e) (n : ℕ) (P R : List ℕ) (w : Whole e n 
         let s = leftmost (b .height) (b .height - c .top) (b .tree) .0 in
         let z : b .height - (b .height - c .top) ≡ c .top = omega (arith, known-low) in
         let f = g .fit s _ (left-site e p b (g .standing .shaped) (g .standing .once) (b .height - c .top) (omega arith)) in
-        record { size = size; most = rw ek (subst (λ (h : ℕ). countOf (block e P s) ≤ most e h) z (f .0 .most)) }
+        record { size = size; most = rw ek (subst (λ (h : ℕ). countOf (block e P s) ≤ mostCount e h) z (f .0 .most)) }
 
 -- a blob that is to be cut
 module _ (e : Edition) (p : Proper e) (c : Cut) (n : ℕ) (P R : List ℕ) (r : ℕ) (hs fs : List ℕ) (u : CutStart e c n P R r hs fs) where

@@ -9,7 +9,7 @@ use Rattle.meaning.specs.Answers.{leafAnswer}
 use Rattle.meaning.specs.declared.Edition.{Edition}
 use Rattle.meaning.specs.declared.Refusal.{Refusal}
 use Rattle.meaning.specs.declared.Leaf.{Leaf}
-use Rattle.meaning.specs.declared.Leaf.the-variants as leaf
+use Rattle.meaning.specs.declared.Leaf.the-variants as leafCase
 use Rattle.check_gate.specs.declared.Opened.{Opened}
 use Rattle.check_gate.specs.declared.Opened.the-variants.{Slots, Refused}
 use Rattle.check_gate.specs.Gate.{gate, Whole}
@@ -24,7 +24,7 @@ use Rattle.call_show.proofs.find.Shown.{row-below, show-spelt}
 
 -- refusals 1 and 2, or what is answered behind them
 module _ (e : Edition) (P R : List ℕ) (x : Opened) (ex : x ≡ gate e P R) (r i : ℕ) where
-  pub leaf-barred : (q : Refusal) → x ≡ Refused q → leaf.Refused q ≡ leafAnswer e (showCall e P R r i)
+  pub leaf-barred : (q : Refusal) → x ≡ Refused q → leafCase.Refused q ≡ leafAnswer e (showCall e P R r i)
   unfolding leafAnswer showCall
   leaf-barred q eq = sym (ap (leafAnswer e) (gate-barred e P R x ex q eq (showIn e (slotsIn e P) P R r i)))
 
@@ -35,7 +35,7 @@ module _ (e : Edition) (P R : List ℕ) (x : Opened) (ex : x ≡ gate e P R) (r 
 -- refusal 3 and the blob check: the refusal, or the leaf in the row
 module _ (e : Edition) (n : ℕ) (P R : List ℕ) (r : ℕ) (o : List ℕ) (w : Walked) (sx ox : List ℕ) (ew : met w sx ox ≡ openNoted e n P R r o) where
   module _ (f : Refusal) (ef : w ≡ Fault f) where
-    pub leaf-refused : (i : ℕ) → leaf.Refused f ≡ leafAnswer e (showIn e n P R r i)
+    pub leaf-refused : (i : ℕ) → leafCase.Refused f ≡ leafAnswer e (showIn e n P R r i)
     unfolding leafAnswer showIn
     leaf-refused i = rw (open-fault e n P R r o w sx ox ew f ef (showOn e n P R i))
 

@@ -13,7 +13,7 @@ use Rattle.meaning.specs.Calls.{refuseIf}
 use Rattle.meaning.specs.Answers.{leafAnswer}
 use Rattle.meaning.specs.declared.Edition.{Edition}
 use Rattle.meaning.specs.declared.Refusal.{Refusal}
-use Rattle.meaning.specs.declared.Leaf.the-variants as leaf
+use Rattle.meaning.specs.declared.Leaf.the-variants as leafCase
 use Rattle.check_blob.proofs.visit.VisitAsDefined.{slot-fits}
 use Rattle.call_show.specs.place.{Below, Lies, showSpelt}
 
@@ -22,7 +22,7 @@ module _ (e : Edition) (n : ℕ) (P row : List ℕ) (k i : ℕ) (lk : k ≤ leng
   taken : length (take k row) ≡ k
   taken = length-take-le k row lk
 
-  pub leaf-past : k ≤ i → (q : Refusal) → q ≡ nowhere 10 → leaf.Refused q ≡ leafAnswer e (showSpelt e P i (take k row))
+  pub leaf-past : k ≤ i → (q : Refusal) → q ≡ nowhere 10 → leafCase.Refused q ≡ leafAnswer e (showSpelt e P i (take k row))
   unfolding leafAnswer showSpelt refuseIf
   leaf-past l q eq = rw eq (simp (taken, le-leb k i l))
 
@@ -37,12 +37,12 @@ module _ (e : Edition) (n : ℕ) (P row : List ℕ) (k i : ℕ) (lk : k ≤ leng
     leaf-in-pool h z = slot-fits (e .size) n s P z (leaf-below h)
 
     pub leaf-shown : (blk : List ℕ) → blk ≡ block e P s → (c : ℕ) → c ≡ countOf blk → (a : ℕ) → a ≡ e .size * s + 16
-        → leaf.At a c ≡ leafAnswer e (showSpelt e P i (take k row))
+        → leafCase.At a c ≡ leafAnswer e (showSpelt e P i (take k row))
     unfolding leafAnswer showSpelt refuseIf
     leaf-shown blk eb c ec a ea = rw (ea, ec, eb) (simp (taken, lt-leb k i l, slot-is))
 
     pub leaf-lies : Proper e → Below e n P (take k row) → length P ≡ e .size * n → (blk : List ℕ) → blk ≡ block e P s → (c : ℕ) → c ≡ countOf blk
-        → (a : ℕ) → a ≡ e .size * s + 16 → Lies (leaf.At a c) (length P)
+        → (a : ℕ) → a ≡ e .size * s + 16 → Lies (leafCase.At a c) (length P)
     unfolding Lies
     leaf-lies p h z blk eb c ec a ea =
         let u : countOf (block e P s) ≤ e .leaf = rw slot-is at (h .count i (omega (arith, taken))) in
@@ -50,6 +50,6 @@ module _ (e : Edition) (n : ℕ) (P row : List ℕ) (k i : ℕ) (lk : k ≤ leng
         omega (arith, p .fits, leaf-in-pool h z)
 
 -- a refusal shows nothing
-pub refused-lies : (q : Refusal) (bytes : ℕ) → Lies (leaf.Refused q) bytes
+pub refused-lies : (q : Refusal) (bytes : ℕ) → Lies (leafCase.Refused q) bytes
 unfolding Lies
 refused-lies q bytes = tt

@@ -9,7 +9,7 @@ use lib.Dec.{eqb}
 use lib.ListN.{length}
 use Rattle.meaning.specs.declared.Edition.{Edition}
 use Rattle.meaning.specs.declared.Refusal.{Refusal}
-use Rattle.meaning.specs.declared.Changed.the-variants as changed
+use Rattle.meaning.specs.declared.Changed.the-variants as changedCase
 use Rattle.meaning.specs.Lists.{pick}
 use Rattle.meaning.specs.Bytes.{block, dataOf, recorded, recordAt, recordOf, state, encoded}
 use Rattle.meaning.specs.Refusals.{nowhere}
@@ -87,7 +87,7 @@ module _ (e : Edition) (n : ℕ) (hs fs d : List ℕ) (offset : ℕ) (P₀ R₀ 
 module _ (e : Edition) (n : ℕ) (P R hs fs : List ℕ) (bytes offset : ℕ) (d : List ℕ) (number : ℕ) (en : number ≡ writeBarred R hs n bytes offset (length d)) where
   -- refused with that number
   pub noted-refused : (number ≡ 0 → ⊥) → (q : Refusal) → q ≡ nowhere number
-      → Ends e changeAnswer (writeNoted e n P R hs fs bytes offset d) P R (changed.Refused q) P R
+      → Ends e changeAnswer (writeNoted e n P R hs fs bytes offset d) P R (changedCase.Refused q) P R
   unfolding writeNoted changeAnswer after pick
   noted-refused some q eq =
       let t = ne-eqb number 0 some in
@@ -99,7 +99,7 @@ module _ (e : Edition) (n : ℕ) (P R hs fs : List ℕ) (bytes offset : ℕ) (d 
 
     pub noted-done : (P′ R′ : List ℕ) → P′ ≡ puts (e .size) (λ c. c .block) (over (writePlan e P R hs fs d offset) 0 n) P
         → R′ ≡ puts 12 (λ c. c .line) (over (writePlan e P R hs fs d offset) 0 n) R
-        → Ends e changeAnswer (writeNoted e n P R hs fs bytes offset d) P R changed.Done P′ R′
+        → Ends e changeAnswer (writeNoted e n P R hs fs bytes offset d) P R changedCase.Done P′ R′
     unfolding writeNoted changeAnswer after changedBy pick
     noted-done P′ R′ ep er =
         let t = eq-eqb number 0 z in

@@ -9,7 +9,7 @@ use mir.Syntax.{w64}
 use mir.Val.{Fits}
 use Rattle.meaning.specs.Edition.{Proper}
 use Rattle.meaning.specs.Bytes.{block, countOf, dataOf}
-use Rattle.meaning.specs.Shape.{most}
+use Rattle.meaning.specs.Shape.{mostCount}
 use Rattle.meaning.specs.Walk.{isRoot, linkCheck, oneVisit}
 use Rattle.meaning.specs.declared.Edition.{Edition}
 use Rattle.meaning.specs.declared.Refusal.{Refusal}
@@ -67,7 +67,7 @@ module _ (e : Edition) (p : Proper e) (n : ℕ) (P R seen : List ℕ) (h : ℕ) 
   pub bytes-fit : (m : ℕ) → m ≤ 255 → Fits w64 (b + m)
   bytes-fit m l = record { fits = omega (arith, leaves-room, start .counted .bytes, start .few, p .small) }
 
-  count-most : countOf (block e P s) ≤ most e h
+  count-most : countOf (block e P s) ≤ mostCount e h
   count-most = passed-sound e h (isRoot role) edge _ s (block e P s) (passed .sound) .most
 
   block-long : length (block e P s) ≡ e .size

@@ -12,7 +12,7 @@ use lib.Seq.{drop-drop}
 use Rattle.meaning.specs.Lists.{both, part, number, joined, fours}
 use Rattle.meaning.specs.Bytes.{block, countOf, dataOf, childrenOf}
 use Rattle.meaning.specs.Tree.{Tree, content, leaves}
-use Rattle.meaning.specs.Walk.{Found, fault, fine, andThen, isEmpty, oneVisit, row, visit}
+use Rattle.meaning.specs.Walk.{Found, fault, fine, andThen, isEmpty, oneVisit, visitRow, visit}
 use Rattle.meaning.specs.declared.Edition.{Edition}
 use Rattle.meaning.specs.declared.Refusal.{Refusal}
 use Rattle.meaning.specs.declared.Role.{Role}
@@ -81,10 +81,10 @@ notes-cons : (e : Edition) (N : ℕ) (P R : List ℕ) (w p : ℕ) (edge : Bool) 
     → notes e N P R w p edge (c ∷ cs) seen b k o
     ≡ andThen (note e N P R w (Child p) (both edge (isEmpty cs)) seen c b k o)
     (λ x seen′. notes e N P R w p edge cs seen′ (x .bytes) (x .leaves) (x .row))
-unfolding notes note row
+unfolding notes note visitRow
 notes-cons e N P R w p edge c cs seen b k o =
     first-noted w b k o (visit e N P R w (Child p) (both edge (isEmpty cs)) seen c)
-    (λ seen′. row e N P R (visit e N P R w) p edge cs seen′)
+    (λ seen′. visitRow e N P R (visit e N P R w) p edge cs seen′)
 
 -- the first of some child slots, from number j on
 pub fours-first : (left j : ℕ) (b : List ℕ) → (left ≡ 0 → ⊥)
@@ -110,7 +110,7 @@ none-after (suc (suc left)) l n =
 below : (e : Edition) (N : ℕ) (P R : List ℕ) (h : ℕ) → (edge : Bool) → (s : ℕ) → List ℕ → List ℕ → Found (Tree h)
 below e N P R zero edge s b seen = fine (s, dataOf b) seen
 below e N P R (suc h) edge s b seen =
-    andThen (row e N P R (visit e N P R h) s edge (childrenOf b) seen) (λ ts seen′. fine (s, ts) seen′)
+    andThen (visitRow e N P R (visit e N P R h) s edge (childrenOf b) seen) (λ ts seen′. fine (s, ts) seen′)
 
 visit-is : (e : Edition) (N : ℕ) (P R : List ℕ) (h : ℕ) (role : Role) (edge : Bool) (seen : List ℕ) (s : ℕ)
     → visit e N P R h role edge seen s ≡ andThen (oneVisit e N P R h role edge seen s) (below e N P R h edge s)
@@ -133,7 +133,7 @@ unfolding notes below childrenOf
 notes-below e N P R zero edge seen s b k o c ec n = absurd (n refl)
 notes-below e N P R (suc h) edge seen s b k o c ec n =
     let p : suc h - 1 ≡ h = omega arith in
-    rw (p, ec) (row-tree h b k s o (row e N P R (visit e N P R h) s edge (fours (countOf (block e P s)) (drop 16 (block e P s))) seen))
+    rw (p, ec) (row-tree h b k s o (visitRow e N P R (visit e N P R h) s edge (fours (countOf (block e P s)) (drop 16 (block e P s))) seen))
 
 leaf-below : (e : Edition) (N : ℕ) (P R : List ℕ) (edge : Bool) (seen : List ℕ) (s b k : ℕ) (o : List ℕ) (c : ℕ) (h : ℕ) → h ≡ 0
     → c ≡ length (dataOf (block e P s))
@@ -180,7 +180,7 @@ note-child-leaf e N P R h p role edge seen s b k o x z er ex =
 -- the row visit
 notes-none : (e : Edition) (N : ℕ) (P R : List ℕ) (w p : ℕ) (edge : Bool) (l seen : List ℕ) (b k : ℕ) (o : List ℕ)
     → met (Fine b k) seen o ≡ notes e N P R w p edge (fours 0 l) seen b k o
-unfolding notes met fours row mapFound noteRow noteLeaves joined putAll
+unfolding notes met fours visitRow mapFound noteRow noteLeaves joined putAll
 notes-none e N P R w p edge l seen b k o = ap (λ (x : Noted). fine x seen) (same-noted (omega arith) (omega arith) refl)
 
 pub notes-end : (e : Edition) (N : ℕ) (P R : List ℕ) (w p : ℕ) (edge : Bool) (left : ℕ) (l seen : List ℕ) (b k : ℕ) (o : List ℕ)

@@ -9,7 +9,7 @@ use mir.Val.{Fits}
 use Rattle.meaning.specs.declared.Edition.{Edition}
 use Rattle.meaning.specs.Lists.{part, number, fours}
 use Rattle.meaning.specs.Bytes.{block, heightOf, countOf, childrenOf}
-use Rattle.meaning.specs.Shape.{most}
+use Rattle.meaning.specs.Shape.{mostCount}
 use Rattle.meaning.specs.Tree.{leavesOf}
 use Rattle.check_blob.proofs.visit.VisitAsDefined.{slot-fits}
 use Rattle.laws_resize.specs.growth.Room.{Every}
@@ -56,7 +56,7 @@ module _ (e : Edition) (n : ℕ) (P hs fs : List ℕ) (h s k : ℕ) (start : Blo
 
   pub row-start : (h ≡ 0 → ⊥) → (hs₁ fs₁ : List ℕ) → hs₁ ≡ set hs s (h + 1) → fs₁ ≡ set fs s k
       → (blk : List ℕ) → blk ≡ block e P s → (m : ℕ) → m ≡ countOf blk → RowStart e n P hs₁ fs₁ (h - 1) s 0 m k
-  unfolding childrenOf most
+  unfolding childrenOf mostCount
   row-start z hs₁ fs₁ eh ef blk eb m em =
       let q : h ≡ suc (h - 1) = omega arith in
       let i : Inside e P n (suc (h - 1)) s = rw (← q) (start .inside) in

@@ -181,7 +181,7 @@ module _ (e : Edition) (n : ℕ) (P R : List ℕ) (r : ℕ) (o : List ℕ) (w : 
             sites = sites-said e n P r inside (stands .once) hs fs hs′ fs′ eh lf noted;
             fit = λ s x q.
                 let a = site-here e n P r inside s x q in
-                (a .fit, a .row, site-count e n P r inside p whole s x q);
+                (a .fit, a .items, site-count e n P r inside p whole s x q);
           }
 
 -- a changing call is what it does on that blob

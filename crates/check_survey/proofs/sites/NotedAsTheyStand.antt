@@ -29,7 +29,7 @@ row-begun all hs fs = record { heights = refl; firsts = refl }
 
 module _ (e : Edition) (P : List ℕ) where
   -- a tree of no height is one leaf, and one of some height its top and then its row
-  leaf-sites : (k s : ℕ) → treeSites e P 0 k s ≡ (s, record { height = 0; first = k; row = treeAt e P 0 s .1 }) ∷ []
+  leaf-sites : (k s : ℕ) → treeSites e P 0 k s ≡ (s, record { height = 0; first = k; items = treeAt e P 0 s .1 }) ∷ []
   unfolding treeSites sites treeAt
   leaf-sites k s = refl
 
@@ -38,7 +38,7 @@ module _ (e : Edition) (P : List ℕ) where
   leaf-leaves s = refl
 
   inner-sites : (h k s : ℕ) → treeSites e P (suc h) k s
-      ≡ (s, record { height = suc h; first = k; row = map (slotOf h) (treeAt e P (suc h) s .1) }) ∷ rowSites e P h k (childrenOf (block e P s))
+      ≡ (s, record { height = suc h; first = k; items = map (slotOf h) (treeAt e P (suc h) s .1) }) ∷ rowSites e P h k (childrenOf (block e P s))
   unfolding treeSites rowSites sites treeAt
   inner-sites h k s = refl
 

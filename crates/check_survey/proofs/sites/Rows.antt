@@ -63,7 +63,7 @@ puts-said f (x ∷ xs) l s once low =
 -- what lies in the slot of a site of a spelt tree
 pub record Here (e : Edition) (n : ℕ) (P : List ℕ) (s : ℕ) (x : Site) : Type 0 where
   pub fit : Fit e n P (x .height) s
-  pub row : x .row ≡ rowOf (x .height) (block e P s)
+  pub items : x .items ≡ rowOf (x .height) (block e P s)
 
 -- a site that is found has what each has
 every-sited : (Q : ℕ → Site → Type 0) (xs : List (ℕ × Site)) (s : ℕ) (x : Site) → Every (λ y. Q (y .0) (y .1)) xs → sited xs s ≡ at x → Q s x
@@ -101,9 +101,9 @@ module _ (e : Edition) (n : ℕ) (P : List ℕ) where
   -- each site of a tree
   tree-here : (h i s : ℕ) → Inside e P n h s → Every (λ y. Here e n P (y .0) (y .1)) (sites h i (treeAt e P h s))
   unfolding sites treeAt Inside rowOf
-  tree-here zero i s a = (record { fit = a; row = refl }, tt)
+  tree-here zero i s a = (record { fit = a; items = refl }, tt)
   tree-here (suc h) i s a =
-      (record { fit = a .0; row = row-slots h (childrenOf (block e P s)) }, row-here h (tree-here h) i (childrenOf (block e P s)) (a .1))
+      (record { fit = a .0; items = row-slots h (childrenOf (block e P s)) }, row-here h (tree-here h) i (childrenOf (block e P s)) (a .1))
 
   -- each site of a blob
   blob-here : (r : ℕ) → Inside e P n (heightOf (block e P r)) r → Every (λ y. Here e n P (y .0) (y .1)) (sitesOf (blobAt e P r))
@@ -116,10 +116,10 @@ module _ (e : Edition) (n : ℕ) (P : List ℕ) where
 
     -- a block counts what it holds
     pub site-count : Proper e → length P ≡ e .size * n → (s : ℕ) (x : Site) → sited (sitesOf (blobAt e P r)) s ≡ at x
-        → length (x .row) ≡ countOf (block e P s)
+        → length (x .items) ≡ countOf (block e P s)
     site-count p whole s x q =
         let a = site-here s x q in
-        ap length (a .row) ∙ row-count (block e P s) (x .height) (block-room e p n P whole (x .height) s (a .fit .within) (a .fit .most))
+        ap length (a .items) ∙ row-count (block e P s) (x .height) (block-room e p n P whole (x .height) s (a .fit .within) (a .fit .most))
 
     low-slots : (m : ℕ) → m ≡ n → (xs : List (ℕ × Site)) → Every (λ y. Here e n P (y .0) (y .1)) xs → Every (λ y. y .0 < m) xs
     low-slots m q [] a = tt
@@ -164,7 +164,7 @@ module _ (e : Edition) (n : ℕ) (P : List ℕ) where
           let h : getD hs′ s 0 ≡ x .height + 1 = height-said s ∙ ap (said tall (getD hs s 0)) q in
           let f : getD fs′ s 0 ≡ x .first = first-said s ∙ ap (said begin (getD fs s 0)) q in
           let g : getD hs′ s 0 - 1 ≡ x .height = omega arith in
-          rw (g, f) (ap (λ (l : List ℕ). at (record { height = x .height; first = x .first; row = l })) (site-here s x q .row))
+          rw (g, f) (ap (λ (l : List ℕ). at (record { height = x .height; first = x .first; items = l })) (site-here s x q .items))
 
       pub sites-said : Sites e n P (blobAt e P r) hs′ fs′
       sites-said = record {

@@ -17,7 +17,7 @@ use Rattle.meaning.specs.Edition.{Proper}
 use Rattle.meaning.specs.Bytes.{block, heightOf, childrenOf, state}
 use Rattle.meaning.specs.Tree.{Tree, Blob, rootOf, leavesOf}
 use Rattle.meaning.specs.Shape.{up, Shaped}
-use Rattle.meaning.specs.Walk.{isRoot, fine, isEmpty, row, visit, fromRoot, roots, closing, poolCheck}
+use Rattle.meaning.specs.Walk.{isRoot, fine, isEmpty, visitRow, visit, fromRoot, roots, closing, poolCheck}
 use Rattle.laws.proofs.Inversions.{never, by-test, andThen-fine, passing-fine, fine-same}
 use Rattle.laws.proofs.Walked.{leaf-found, inner-found, none-found, row-found, root-found, slot-within, walk-shaped}
 use Rattle.laws.proofs.Marks.{walk-marks, walk-few, walk-few-blocks}
@@ -39,7 +39,7 @@ module _ (e : Edition) (N : ℕ) (P R : List ℕ) where
 
   -- a row
   row-spelt : (h : ℕ) → Spells h → (q : ℕ) (edge : Bool) (cs seen : List ℕ) (ts : List (Tree h)) (seen′ : List ℕ)
-      → row e N P R (visit e N P R h) q edge cs seen ≡ fine ts seen′ → (ts ≡ map (treeAt e P h) cs) × Every (Inside e P N h) cs
+      → visitRow e N P R (visit e N P R h) q edge cs seen ≡ fine ts seen′ → (ts ≡ map (treeAt e P h) cs) × Every (Inside e P N h) cs
   unfolding isRoot
   row-spelt h each q edge [] seen ts seen′ v = (sym (none-found e N P R h q edge seen v .0), tt)
   row-spelt h each q edge (c ∷ cs) seen ts seen′ v =

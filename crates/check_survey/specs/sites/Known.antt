@@ -42,4 +42,4 @@ pub record Known (e : Edition) (n : ℕ) (P R : List ℕ) (r len k : ℕ) (row h
   pub sites : Sites e n P (blobAt e P r) hs fs
   -- what lies in the slots of its blocks
   pub fit : (s : ℕ) (x : Site) → sited (sitesOf (blobAt e P r)) s ≡ at x
-      → Fit e n P (x .height) s × (x .row ≡ rowOf (x .height) (block e P s)) × (length (x .row) ≡ countOf (block e P s))
+      → Fit e n P (x .height) s × (x .items ≡ rowOf (x .height) (block e P s)) × (length (x .items) ≡ countOf (block e P s))

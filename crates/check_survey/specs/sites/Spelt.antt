@@ -8,7 +8,7 @@ use Rattle.meaning.specs.declared.Edition.{Edition}
 use Rattle.meaning.specs.Lists.{joined}
 use Rattle.meaning.specs.Bytes.{block, heightOf, countOf, dataOf, childrenOf}
 use Rattle.meaning.specs.Tree.{Tree, Blob, leaves}
-use Rattle.meaning.specs.Shape.{most}
+use Rattle.meaning.specs.Shape.{mostCount}
 use Rattle.laws.proofs.Codec.{rowOf}
 use Rattle.laws_resize.specs.growth.Room.{Every}
 use Rattle.laws_resize.specs.growth.Sites.{Site, counting, sites}
@@ -17,7 +17,7 @@ use Rattle.laws_resize.specs.growth.Sites.{Site, counting, sites}
 pub record Fit (e : Edition) (n : ℕ) (P : List ℕ) (h s : ℕ) : Type 0 where
   pub within : s < n
   pub height : heightOf (block e P s) ≡ h
-  pub most : countOf (block e P s) ≤ most e h
+  pub most : countOf (block e P s) ≤ mostCount e h
 
 module _ (e : Edition) (P : List ℕ) where
   unfoldable pub treeAt : (h s : ℕ) → Tree h
@@ -49,4 +49,4 @@ module _ (e : Edition) (P : List ℕ) where
 
   -- where the block of a slot stands, by what was noted of it: its height and one more, and its first leaf's number
   unfoldable pub siteAt : (s tall first : ℕ) → Site
-  siteAt s tall first = record { height = tall - 1; first = first; row = rowOf (tall - 1) (block e P s) }
+  siteAt s tall first = record { height = tall - 1; first = first; items = rowOf (tall - 1) (block e P s) }

@@ -28,7 +28,7 @@ use Rattle.laws_resize.proofs.growth.Resized.{Standing}
 -- a cell is the same as itself
 same-cell : (c : Cell) → sameCell c c ≡ true
 unfolding sameCell both
-same-cell c = rw (eq-eqb (c .height) (c .height) refl) (same-self (c .row))
+same-cell c = rw (eq-eqb (c .height) (c .height) refl) (same-self (c .items))
 
 -- what is as it was does not change
 pub unchanged : (e : Edition) (R : List ℕ) (state s : ℕ) (v : Held) → changed e R state s v v ≡ []
@@ -55,7 +55,7 @@ cut-value e R free b len short s x q other = rw (lt-leb (lengthOf b) len short, 
 
 -- what a block holds
 abbrev pub cellAt : Site → Cell
-cellAt x = record { height = x .height; row = x .row }
+cellAt x = record { height = x .height; items = x .items }
 
 module _ (e : Edition) (p : Proper e) (R : List ℕ) (b : Blob) (standing : Standing e R b) where
   -- what a slot of the blob holds, and another
@@ -82,7 +82,7 @@ module _ (e : Edition) (p : Proper e) (R : List ℕ) (b : Blob) (standing : Stan
   -- nor is the root in a slot that the blob has not
   not-root : (s : ℕ) → sited (sitesOf b) s ≡ absent → eqb s (rootOf b) ≡ false
   not-root s q = ne-eqb s (rootOf b) (λ r.
-      let y : at (record { height = b .height; first = 0; row = rootRow b }) ≡ absent =
+      let y : at (record { height = b .height; first = 0; items = rootRow b }) ≡ absent =
       sym (root-site e p b (standing .shaped) (standing .once)) ∙ ap (sited (sitesOf b)) (sym r) ∙ q in
       let z : _≡_ {A = ℕ} 0 1 = cc in omega arith)
 
@@ -104,7 +104,7 @@ module _ (e : Edition) (p : Proper e) (R : List ℕ) (b : Blob) (standing : Stan
 
     -- an old block, grown
     abbrev grownCell : Site → Cell
-    grownCell x = record { height = x .height; row = grownRow e len (length (leavesOf b)) free (x .height) (x .first) (x .row) }
+    grownCell x = record { height = x .height; items = grownRow e len (length (leavesOf b)) free (x .height) (x .first) (x .items) }
 
     -- what the root holds
     root-value : resizedHeld e R free b len (rootOf b) ≡ just top
@@ -128,7 +128,7 @@ module _ (e : Edition) (p : Proper e) (R : List ℕ) (b : Blob) (standing : Stan
 
     -- the root
     pub change-root : changed e R 1 (rootOf b) (held (cellsOf b) (rootOf b)) (resizedHeld e R free b len (rootOf b))
-        ≡ pick (sameCell (record { height = b .height; row = rootRow b }) top) [] (renewed e R (state R (rootOf b)) (rootOf b) top ∷ [])
+        ≡ pick (sameCell (record { height = b .height; items = rootRow b }) top) [] (renewed e R (state R (rootOf b)) (rootOf b) top ∷ [])
     change-root =
         ap₂ (changed e R 1 (rootOf b)) (held-at (rootOf b) _ (root-site e p b (standing .shaped) (standing .once))) root-value
         ∙ changed-both e R 1 (rootOf b) _ top
@@ -150,7 +150,7 @@ module _ (e : Edition) (p : Proper e) (R : List ℕ) (b : Blob) (standing : Stan
   module _ (free : List ℕ) (len : ℕ) (short : len < lengthOf b) where
     -- the root
     pub cut-root : changed e R 1 (rootOf b) (held (cellsOf b) (rootOf b)) (resizedHeld e R free b len (rootOf b))
-        ≡ pick (sameCell (record { height = b .height; row = rootRow b }) (shorterRoot e b len)) []
+        ≡ pick (sameCell (record { height = b .height; items = rootRow b }) (shorterRoot e b len)) []
         (renewed e R (state R (rootOf b)) (rootOf b) (shorterRoot e b len) ∷ [])
     cut-root =
         ap₂ (changed e R 1 (rootOf b)) (held-at (rootOf b) _ (root-site e p b (standing .shaped) (standing .once)))
@@ -178,7 +178,7 @@ module _ (e : Edition) (p : Proper e) (R : List ℕ) (b : Blob) (standing : Stan
   module _ (d : List ℕ) where
     -- a block of the blob
     pub rewrite-old : (s : ℕ) (x : Site) (c : Cell) → sited (sitesOf b) s ≡ at x
-        → c ≡ record { height = x .height; row = rewritten e d (x .height) (x .first) (x .row) }
+        → c ≡ record { height = x .height; items = rewritten e d (x .height) (x .first) (x .items) }
         → changed e R 1 s (held (cellsOf b) s) (writtenHeld e b d s) ≡ pick (sameCell (cellAt x) c) [] (renewed e R (state R s) s c ∷ [])
     unfolding writtenHeld heldBy written
     rewrite-old s x c q new = ap₂ (changed e R 1 s) (held-at s x q) (rw (q, new)) ∙ changed-both e R 1 s (cellAt x) c
@@ -188,7 +188,7 @@ module _ (e : Edition) (p : Proper e) (R : List ℕ) (b : Blob) (standing : Stan
         → changed e R 1 s (held (cellsOf b) s) (writtenHeld e b d s) ≡ []
     unfolding rewritten pick
     rewrite-inner s x h q high =
-        rewrite-old s x (cellAt x) q (ap (λ (r : List ℕ). record { height = x .height; row = r }) (rw high)) ∙ rw (same-cell (cellAt x))
+        rewrite-old s x (cellAt x) q (ap (λ (r : List ℕ). record { height = x .height; items = r }) (rw high)) ∙ rw (same-cell (cellAt x))
 
     -- and so does any other slot
     pub rewrite-other : (s : ℕ) → sited (sitesOf b) s ≡ absent → changed e R 1 s (held (cellsOf b) s) (writtenHeld e b d s) ≡ []

@@ -13,7 +13,7 @@ use borrow.Author.Tests.{leb-true, leb-false, le-leb, lt-leb, eq-eqb, ne-eqb}
 use Rattle.meaning.specs.declared.Edition.{Edition}
 use Rattle.meaning.specs.Lists.{pick, joined, mapLast}
 use Rattle.meaning.specs.Tree.{Tree, slotOf, leaves, cells}
-use Rattle.meaning.specs.Shape.{up, leavesFor, least, most, InRow, ShapedTree}
+use Rattle.meaning.specs.Shape.{up, leavesFor, leastCount, mostCount, InRow, ShapedTree}
 use Rattle.meaning.specs.Resize.{lastLeaf, keepRow, keep}
 use Rattle.laws.proofs.Inversions.{by-test}
 use Rattle.laws.proofs.Totals.{up-is, up-gt, up-add, leaves-tight, leaves-zero}
@@ -118,7 +118,7 @@ module _ (e : Edition) (some : 1 ≤ e .leaf) (two : 2 ≤ e .fan) (len : ℕ) w
 
   -- and so a full tree
   before-tree : (h i : ℕ) (t : Tree h) → ShapedTree e h false false t → i + e .fan ^ h < stay → ruled (cut e len) (sites h i t) ≡ cells h t
-  unfolding ShapedTree sites ruled entry cut gone cutRow pick cells least most
+  unfolding ShapedTree sites ruled entry cut gone cutRow pick cells leastCount mostCount
   before-tree zero i t s early =
       let z = pow-zero (e .fan) in
       let l = before-last i (omega arith) in

@@ -13,7 +13,7 @@ use Rattle.meaning.specs.declared.Edition.{Edition}
 use Rattle.meaning.specs.Lists.{pick, padded, joined, mapLast}
 use Rattle.meaning.specs.Bytes.{Cell}
 use Rattle.meaning.specs.Tree.{Tree, slotOf, leaves, cells}
-use Rattle.meaning.specs.Shape.{least, most, InRow, ShapedTree}
+use Rattle.meaning.specs.Shape.{leastCount, mostCount, InRow, ShapedTree}
 use Rattle.meaning.specs.Resize.{share, lastLeaf}
 use Rattle.laws_resize.proofs.resizing.Ends.{length-snoc, joined-snoc, mapLast-snoc, row-apart, some-child}
 use Rattle.laws_resize.proofs.resizing.Last.{last-slot}
@@ -114,7 +114,7 @@ module _ (e : Edition) (some : 1 ≤ e .leaf) (two : 2 ≤ e .fan) (len n : ℕ)
   -- and so a full tree
   full-tree : (h i : ℕ) (t : Tree h) → ShapedTree e h false false t → e .leaf * (i + e .fan ^ h) ≤ len
       → ruled (grown e len n free) (sites h i t) ≡ cells h t
-  unfolding ShapedTree sites ruled entry grown cells least most pick share grownRow
+  unfolding ShapedTree sites ruled entry grown cells leastCount mostCount pick share grownRow
   full-tree zero i t s fits =
       let l : length (t .1) ≡ e .leaf = omega (arith, s .0, s .1) in
       let m : min (e .leaf) (len - e .leaf * i)
@@ -171,7 +171,7 @@ module _ (e : Edition) (some : 1 ≤ e .leaf) (two : 2 ≤ e .fan) (len n : ℕ)
   -- the top of such a tree, filled
   top-row : (h k i : ℕ) (d : List ℕ) (root : Bool) (l : List (Tree h)) → Ends l → AtEdge (suc h) i d root (k, l)
       → edgeCell (e .fan) lens free (suc h) (lastLeaf (suc h) d (k, l))
-      ≡ record { height = suc h; row = grownRow e len n free (suc h) i (map (slotOf h) l) }
+      ≡ record { height = suc h; items = grownRow e len n free (suc h) i (map (slotOf h) l) }
   unfolding edgeCell grownRow newRow places
   top-row h k i d root l none a = absurd (omega (arith, no-leaf h k i d root a))
   top-row h k i d root l (last xs x) a =
@@ -198,11 +198,11 @@ module _ (e : Edition) (some : 1 ≤ e .leaf) (two : 2 ≤ e .fan) (len n : ℕ)
 
   -- the top of a tree at the edge, filled
   pub top-grown : (h i : ℕ) (d : List ℕ) (root : Bool) (t : Tree h) → AtEdge h i d root t
-      → edgeCell (e .fan) lens free h (lastLeaf h d t) ≡ record { height = h; row = grownRow e len n free h i (topRow h t) }
+      → edgeCell (e .fan) lens free h (lastLeaf h d t) ≡ record { height = h; items = grownRow e len n free h i (topRow h t) }
   unfolding edgeCell lastLeaf grownRow topRow leaves
   top-grown zero i d root t a =
       let z : n - 1 ≡ i = omega (arith, a .ends) in
-      ap (λ (r : List ℕ). record { height = 0; row = r }) (a .bytes ∙ rw z)
+      ap (λ (r : List ℕ). record { height = 0; items = r }) (a .bytes ∙ rw z)
   top-grown (suc h) i d root t a = top-row h (t .0) i d root (t .1) (ends (t .1)) a
 
   -- old blocks, of a row
@@ -236,5 +236,5 @@ module _ (e : Edition) (some : 1 ≤ e .leaf) (two : 2 ≤ e .fan) (len n : ℕ)
   unfolding kept cells lastLeaf sites ruled entry grown grownRow leaves
   edge-kept zero i d root t a =
       let z : n - 1 ≡ i = omega (arith, a .ends) in
-      ap (λ (r : List ℕ). (t .0, record { height = 0; row = r }) ∷ []) (a .bytes ∙ rw z)
+      ap (λ (r : List ℕ). (t .0, record { height = 0; items = r }) ∷ []) (a .bytes ∙ rw z)
   edge-kept (suc h) i d root t a = kept-row h (edge-kept h) (t .0) i d root (t .1) (ends (t .1)) a

@@ -58,7 +58,7 @@ module _ (fan : ℕ) (one : 1 ≤ fan) (lens free : List ℕ) where
 
   -- no block
   abbrev pub none : ℕ × Cell
-  none = (0, record { height = 0; row = [] })
+  none = (0, record { height = 0; items = [] })
 
   -- a subtree by place has at most a bulk
   at-most : (h i k : ℕ) → i < length lens → length (cellsAt h i k) ≤ bulk fan h

@@ -69,7 +69,7 @@ sited-listed (y ∷ l) s x q =
     pair p q = ap₂ (λ (a : ℕ) (z : Site). (a, z)) (sym p) (sym q)
 
 -- a tree's own site comes first
-pub own-site : (h i : ℕ) (t : Tree h) → List·Memᴰ (slotOf h t, record { height = h; first = i; row = topRow h t }) (sites h i t)
+pub own-site : (h i : ℕ) (t : Tree h) → List·Memᴰ (slotOf h t, record { height = h; first = i; items = topRow h t }) (sites h i t)
 unfolding sites slotOf topRow
 own-site zero i t = List·Memᴰ·head refl
 own-site (suc h) i t = List·Memᴰ·head refl
@@ -99,7 +99,7 @@ module _ (e : Edition) (some : 1 ≤ e .leaf) (two : 2 ≤ e .fan) where
   unfolding InRow counting
   row-child h i edge [] r c less = absurd (omega arith)
   row-child h i edge (t ∷ ts) r zero less = record {
-    site = record { height = h; first = i; row = topRow h t };
+    site = record { height = h; first = i; items = topRow h t };
     listed = in-left _ (own-site h i t);
     lower = refl;
     begins = omega arith;
@@ -154,8 +154,8 @@ module _ (e : Edition) (some : 1 ≤ e .leaf) (two : 2 ≤ e .fan) where
 
   -- the child of a tree's top
   top-child : (h i : ℕ) (edge : Bool) (k : ℕ) (ts : List (Tree h)) → InRow (ShapedTree e h false) edge ts → (g c : ℕ) (x : Site)
-      → x ≡ record { height = suc h; first = i; row = map (slotOf h) ts } → x .height ≡ suc g → c < length (x .row)
-      → ChildAt g (x .first) (getD (x .row) c past) c (sites (suc h) i (k, ts))
+      → x ≡ record { height = suc h; first = i; items = map (slotOf h) ts } → x .height ≡ suc g → c < length (x .items)
+      → ChildAt g (x .first) (getD (x .items) c past) c (sites (suc h) i (k, ts))
   unfolding sites
   top-child h i edge k ts r g c x q high less =
       let f = row-child h i edge ts r c (rw q at less) in
@@ -164,19 +164,19 @@ module _ (e : Edition) (some : 1 ≤ e .leaf) (two : 2 ≤ e .fan) where
 
   -- the child of a block
   tree-child : (h i : ℕ) (root edge : Bool) (t : Tree h) → ShapedTree e h root edge t → (s : ℕ) (x : Site) → List·Memᴰ (s, x) (sites h i t)
-      → (g c : ℕ) → x .height ≡ suc g → c < length (x .row) → ChildAt g (x .first) (getD (x .row) c past) c (sites h i t)
+      → (g c : ℕ) → x .height ≡ suc g → c < length (x .items) → ChildAt g (x .first) (getD (x .items) c past) c (sites h i t)
   unfolding ShapedTree sites
   tree-child zero i root edge t sh s x m g c high less =
       absurd (omega (arith, ap (λ z. z .1 .height) (List·Memᴰ·eq-of-singleton m)))
   tree-child (suc h) i root edge t sh s x m g c high less = by (tree-child h) (List·Memᴰ·cases-cons m)
     where
       top : Site
-      top = record { height = suc h; first = i; row = map (slotOf h) (t .1) }
+      top = record { height = suc h; first = i; items = map (slotOf h) (t .1) }
 
       by : ((i : ℕ) (root edge : Bool) (t : Tree h) → ShapedTree e h root edge t → (s : ℕ) (x : Site) → List·Memᴰ (s, x) (sites h i t)
-          → (g c : ℕ) → x .height ≡ suc g → c < length (x .row) → ChildAt g (x .first) (getD (x .row) c past) c (sites h i t))
+          → (g c : ℕ) → x .height ≡ suc g → c < length (x .items) → ChildAt g (x .first) (getD (x .items) c past) c (sites h i t))
           → (_≡_ {A = ℕ × Site} (s, x) (t .0, top)) ⊎ List·Memᴰ (s, x) (counting (count h) (sites h) i (t .1))
-          → ChildAt g (x .first) (getD (x .row) c past) c (sites (suc h) i t)
+          → ChildAt g (x .first) (getD (x .items) c past) c (sites (suc h) i t)
       by each (inl q) = top-child h i edge (t .0) (t .1) (sh .2) g c x (ap (λ z. z .1) q) high less
       by each (inr later) =
           let f = row-tree h i edge (t .1) (sh .2) (s, x) later in
@@ -184,14 +184,14 @@ module _ (e : Edition) (some : 1 ≤ e .leaf) (two : 2 ≤ e .fan) where
           record {
             site = k .site;
             listed = List·Memᴰ·tail
-                (f .within (getD (x .row) c past, k .site) (k .listed));
+                (f .within (getD (x .items) c past, k .site) (k .listed));
             lower = k .lower;
             begins = k .begins;
           }
 
   -- the left edge: the first child of the first child .., k times
   left-listed : (h i k : ℕ) (root edge : Bool) (t : Tree h) → ShapedTree e h root edge t → k ≤ h
-      → List·Memᴰ (leftmost h k t .0, record { height = h - k; first = i; row = leftmost h k t .1 }) (sites h i t)
+      → List·Memᴰ (leftmost h k t .0, record { height = h - k; first = i; items = leftmost h k t .1 }) (sites h i t)
   unfolding ShapedTree leftmost sites ofFirst counting InRow
   left-listed zero i zero root edge t sh low = List·Memᴰ·head refl
   left-listed zero i (suc k) root edge t sh low = absurd (omega arith)
@@ -203,9 +203,9 @@ module _ (e : Edition) (some : 1 ≤ e .leaf) (two : 2 ≤ e .fan) where
       z = omega arith
 
       first : ((i k : ℕ) (root edge : Bool) (t : Tree h) → ShapedTree e h root edge t → k ≤ h
-          → List·Memᴰ (leftmost h k t .0, record { height = h - k; first = i; row = leftmost h k t .1 }) (sites h i t))
+          → List·Memᴰ (leftmost h k t .0, record { height = h - k; first = i; items = leftmost h k t .1 }) (sites h i t))
           → (edge : Bool) (ts : List (Tree h)) → 1 ≤ length ts → InRow (ShapedTree e h false) edge ts
-          → List·Memᴰ (ofFirst (0, []) (leftmost h k) ts .0, record { height = suc h - suc k; first = i; row = ofFirst (0, []) (leftmost h k) ts .1 })
+          → List·Memᴰ (ofFirst (0, []) (leftmost h k) ts .0, record { height = suc h - suc k; first = i; items = ofFirst (0, []) (leftmost h k) ts .1 })
           (counting (count h) (sites h) i ts)
       first each edge [] some r = absurd (omega arith)
       first each edge (u ∷ []) some r = rw z (in-left _ (each i k false edge u r (omega arith)))
@@ -233,30 +233,13 @@ module _ (e : Edition) (some : 1 ≤ e .leaf) (two : 2 ≤ e .fan) where
 -- a shaped blob, no slot of which stands twice
 module _ (e : Edition) (p : Proper e) (b : Blob) (shaped : Shaped e b) (once : Once (slotsOf b)) where
   -- the root stands at the blob's height, and begins with leaf 0
-  pub root-site : sited (sitesOf b) (rootOf b) ≡ at (record { height = b .height; first = 0; row = rootRow b })
+  pub root-site : sited (sitesOf b) (rootOf b) ≡ at (record { height = b .height; first = 0; items = rootRow b })
   unfolding sitesOf rootOf rootRow
   root-site = listed-sited (sitesOf b) (rootOf b) _ (rw (site-slots b) once) (own-site (b .height) 0 (b .tree))
 
-  -- where a block's child stands
-  pub record ChildSite (x : Site) (g c : ℕ) : Type 0 where
-    pub row : List ℕ
-    pub stands : sited (sitesOf b) (getD (x .row) c past) ≡ at (record { height = g; first = x .first + c * e .fan ^ g; row = row })
-
-  -- one lower, and c full trees further
-  pub child-site : (s : ℕ) (x : Site) → sited (sitesOf b) s ≡ at x → (g c : ℕ) → x .height ≡ suc g → c < length (x .row) → ChildSite x g c
-  unfolding sitesOf Shaped
-  child-site s x found g c high less =
-      let f = tree-child e (p .some) (p .two) (b .height) 0 true true (b .tree) shaped s x (sited-listed (sitesOf b) s x found) g c high less in
-      let there : f .site ≡ record { height = g; first = x .first + c * e .fan ^ g; row = f .site .row } =
-      ap₂ (λ (h i : ℕ). record { height = h; first = i; row = f .site .row }) (f .lower) (f .begins) in
-      record {
-        row = f .site .row;
-        stands = listed-sited (sitesOf b) (getD (x .row) c past) (f .site) (rw (site-slots b) once) (f .listed) ∙ ap at there;
-      }
-
   -- where the left edge's block stands, k steps below the root
   pub left-site : (k : ℕ) → k ≤ b .height → sited (sitesOf b) (leftmost (b .height) k (b .tree) .0)
-      ≡ at (record { height = b .height - k; first = 0; row = leftmost (b .height) k (b .tree) .1 })
+      ≡ at (record { height = b .height - k; first = 0; items = leftmost (b .height) k (b .tree) .1 })
   unfolding sitesOf Shaped
   left-site k low = listed-sited (sitesOf b) _ _ (rw (site-slots b) once)
       (left-listed e (p .some) (p .two) (b .height) 0 k true true (b .tree) shaped low)

@@ -13,7 +13,7 @@ use Rattle.laws_resize.specs.growth.Spot.{roomOf, spaceOf, spot}
 use Rattle.meaning.specs.declared.Edition.{Edition}
 use Rattle.meaning.specs.Lists.{joined}
 use Rattle.meaning.specs.Tree.{Tree, leaves}
-use Rattle.meaning.specs.Shape.{most, InRow, ShapedTree}
+use Rattle.meaning.specs.Shape.{mostCount, InRow, ShapedTree}
 use Rattle.laws_resize.proofs.resizing.Ends.{length-snoc, joined-snoc, row-apart, some-child}
 use Rattle.laws_resize.specs.growth.Room.{count, Every, RoomRow, Room}
 use Rattle.laws_resize.proofs.growth.Grow.{Ends, none, last, ends}
@@ -71,7 +71,7 @@ module _ (e : Edition) (some : 1 ≤ e .leaf) (two : 2 ≤ e .fan) where
 
   -- a shaped tree has the room that its leaves leave
   pub shaped-room : (h : ℕ) → Roomy h
-  unfolding ShapedTree leaves most
+  unfolding ShapedTree leaves mostCount
   shaped-room zero root edge t s = omega (arith, pow-zero (e .fan))
   shaped-room (suc h) root edge t s =
       row-room h (shaped-room h) edge (t .1) (ends (t .1)) (some-child e two h edge root _ (s .0)) (s .1) (s .2)
@@ -126,7 +126,7 @@ module _ (e : Edition) (some : 1 ≤ e .leaf) (two : 2 ≤ e .fan) where
 
   -- room, space and places are those of the count of leaves
   pub numbered : (h : ℕ) → Numbered h
-  unfolding ShapedTree leaves most roomOf spaceOf spot room space seat
+  unfolding ShapedTree leaves mostCount roomOf spaceOf spot room space seat
   numbered zero root t s q n is = (refl, refl, λ p. refl)
   numbered (suc h) root t s q n is =
       numbered-row h (numbered h) (t .0) (t .1) (ends (t .1)) (some-child e two h true root _ (s .0)) (s .1) (s .2) q n is

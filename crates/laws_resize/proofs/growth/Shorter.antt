@@ -17,7 +17,7 @@ use Rattle.meaning.specs.Edition.{Proper}
 use Rattle.meaning.specs.Bytes.{Cell}
 use Rattle.meaning.specs.Tree.{Tree, Blob, slotOf, atSlot, leaves, cells, rootOf}
 use Rattle.meaning.specs.Tree.{contentOf, leavesOf, cellsOf, slotsOf, lengthOf, nothing, just, held}
-use Rattle.meaning.specs.Shape.{up, leavesFor, heightFor, least, most, InRow, ShapedTree, Shaped}
+use Rattle.meaning.specs.Shape.{up, leavesFor, heightFor, leastCount, mostCount, InRow, ShapedTree, Shaped}
 use Rattle.meaning.specs.Resize.{lastLeaf, share, lastBytes, keepRow, keep, lower, shorter}
 use Rattle.laws.proofs.Inversions.{by-test}
 use Rattle.laws.proofs.Totals.{up-gt, leaves-some, leaves-mono, leaves-fit}
@@ -57,9 +57,9 @@ module _ (e : Edition) (some : 1 ≤ e .leaf) (two : 2 ≤ e .fan) (len : ℕ) w
   -- and of a tree
   gone-tree : (h i : ℕ) (t : Tree h) → stay e some two len ≤ i → ruled (shortened e len) (sites h i t) ≡ []
   unfolding sites ruled entry shortened cut gone pick
-  gone-tree zero i t late = rw (le-leb (stay e some two len) i late, pick-none (replaced e len (record { height = 0; first = i; row = t .1 })))
+  gone-tree zero i t late = rw (le-leb (stay e some two len) i late, pick-none (replaced e len (record { height = 0; first = i; items = t .1 })))
   gone-tree (suc h) i t late =
-      rw (le-leb (stay e some two len) i late, pick-none (replaced e len (record { height = suc h; first = i; row = map (slotOf h) (t .1) })))
+      rw (le-leb (stay e some two len) i late, pick-none (replaced e len (record { height = suc h; first = i; items = map (slotOf h) (t .1) })))
       (gone-row h (gone-tree h) i (t .1) late)
 
   -- blocks lower than the new root follow the rule `cut`
@@ -86,9 +86,9 @@ module _ (e : Edition) (some : 1 ≤ e .leaf) (two : 2 ≤ e .fan) (len : ℕ) w
   -- of a tree
   low-tree : (h i : ℕ) (t : Tree h) → h < heightOfLength e len → ruled (shortened e len) (sites h i t) ≡ ruled (cut e len) (sites h i t)
   unfolding sites ruled
-  low-tree zero i t low = rw (low-one (record { height = 0; first = i; row = t .1 }) low)
+  low-tree zero i t low = rw (low-one (record { height = 0; first = i; items = t .1 }) low)
   low-tree (suc h) i t low =
-      rw (low-one (record { height = suc h; first = i; row = map (slotOf h) (t .1) }) low, low-row h (low-tree h) i (t .1) (omega arith))
+      rw (low-one (record { height = suc h; first = i; items = map (slotOf h) (t .1) }) low, low-row h (low-tree h) i (t .1) (omega arith))
 
   -- a tree's own site on the left edge, where the root comes down past it
   top-gone : (h : ℕ) (t : Tree h) → heightOfLength e len ≤ h → ruled (shortened e len) (sites h 0 t) ≡ ruled (shortened e len) (drop 1 (sites h 0 t))
@@ -113,7 +113,7 @@ module _ (e : Edition) (some : 1 ≤ e .leaf) (two : 2 ≤ e .fan) (len : ℕ) w
   -- what the root holds then
   abbrev lowCell : (h : ℕ) → Tree h → Cell
   lowCell h t =
-      record { height = heightOfLength e len; row = cutRow e len (heightOfLength e len) 0 (leftmost h (h - heightOfLength e len) t .1) }
+      record { height = heightOfLength e len; items = cutRow e len (heightOfLength e len) 0 (leftmost h (h - heightOfLength e len) t .1) }
 
   -- its blocks: the root, and the others by the rule
   abbrev Down : ℕ → Type 0
@@ -160,13 +160,13 @@ module _ (e : Edition) (some : 1 ≤ e .leaf) (two : 2 ≤ e .fan) (len : ℕ) w
       let one : stay e some two len ≡ 1 = omega arith in
       let flat : heightFor (e .fan) (leavesFor (e .leaf) len) ≡ 0 = height-small (e .fan) (stay e some two len) two few in
       let what : d ≡ take (len - e .leaf * 0) (t .1) = rw one at q in
-      rw flat (ap (λ (a : List ℕ). (s, record { height = 0; row = a }) ∷ []) what)
+      rw flat (ap (λ (a : List ℕ). (s, record { height = 0; items = a }) ∷ []) what)
 
   -- two children or more: it is the root
   down-here : (h : ℕ) (root edge : Bool) (t : Tree (suc h)) → ShapedTree e (suc h) root edge t → stay e some two len ≤ count (suc h) t
       → e .fan ^ h < stay e some two len → (d : List ℕ) → d ≡ lastData e some two len (suc h) 0 (leaves (suc h) t) → (s : ℕ)
       → down (suc h) d s t ≡ (s, lowCell (suc h) t) ∷ ruled (shortened e len) (drop 1 (sites (suc h) 0 t))
-  unfolding ShapedTree lower keep lastLeaf atSlot cellsOf cells sites leaves leftmost cutRow OfRow most
+  unfolding ShapedTree lower keep lastLeaf atSlot cellsOf cells sites leaves leftmost cutRow OfRow mostCount
   down-here h root edge t sh few high d q s =
       let n = stay e some two len in
       let c = row-counted e some two h edge (t .1) (sh .2) in
@@ -178,7 +178,7 @@ module _ (e : Edition) (some : 1 ≤ e .leaf) (two : 2 ≤ e .fan) (len : ℕ) w
       let row : List (Tree h) = mapLast (lastLeaf h d) (keepRow (count h) (keep h) n (t .1)) in
       let slots : map (slotOf h) row ≡ take (up n (e .fan ^ h)) (map (slotOf h) (t .1)) = rw w at (r .slots) in
       let below : joined (map (cells h) row) ≡ ruled (cut e len) (counting (count h) (sites h) 0 (t .1)) = rw w at (r .cells) in
-      let least : 2 ≤ length (t .1) = many (length (t .1)) (omega (arith, c .high)) in
+      let leastCount : 2 ≤ length (t .1) = many (length (t .1)) (omega (arith, c .high)) in
       let shares = up-gt n (e .fan ^ h) 1 (one-le-pow h (e .fan) (omega arith)) (omega arith) in
       let wide : 2 ≤ length row = omega (
         arith,
@@ -188,7 +188,7 @@ module _ (e : Edition) (some : 1 ≤ e .leaf) (two : 2 ≤ e .fan) (len : ℕ) w
         length-map (t .1) (slotOf h),
       ) in
       rw (only-many (λ x. lower h (atSlot h s x)) (record { height = suc h; tree = (s, row) }) row wide, tall, z, w)
-      (ap₂ (λ (a : List ℕ) (b : List (ℕ × Cell)). (s, record { height = suc h; row = a }) ∷ b) slots
+      (ap₂ (λ (a : List ℕ) (b : List (ℕ × Cell)). (s, record { height = suc h; items = a }) ∷ b) slots
       (below ∙ sym (low-row h (low-tree h) 0 (t .1) (omega arith))))
     where
       many : (c : ℕ) → e .fan ^ h < e .fan ^ h * c → 2 ≤ c
@@ -255,7 +255,7 @@ module _ (e : Edition) (p : Proper e) (b : Blob) (shaped : Shaped e b) (len : �
   abbrev pub rootCut : Cell
   rootCut = record {
     height = heightOfLength e len;
-    row = cutRow e len (heightOfLength e len) 0 (leftmost (b .height) (b .height - heightOfLength e len) (b .tree) .1);
+    items = cutRow e len (heightOfLength e len) 0 (leftmost (b .height) (b .height - heightOfLength e len) (b .tree) .1);
   }
 
   -- all blocks after

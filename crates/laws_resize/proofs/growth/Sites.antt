@@ -60,7 +60,7 @@ same-row h each i (t ∷ ts) =
 pub same-sites : (h i : ℕ) (t : Tree h) → ruled same (sites h i t) ≡ cells h t
 unfolding sites ruled same entry cells
 same-sites zero i t = refl
-same-sites (suc h) i t = ap (_∷_ (t .0, record { height = suc h; row = map (slotOf h) (t .1) })) (same-row h (same-sites h) i (t .1))
+same-sites (suc h) i t = ap (_∷_ (t .0, record { height = suc h; items = map (slotOf h) (t .1) })) (same-row h (same-sites h) i (t .1))
 
 -- the slots of a rule that makes nothing of no site are those of the sites
 same-slots : (xs : List (ℕ × Site)) → map (λ c. c .0) (ruled same xs) ≡ map (λ x. x .0) xs

@@ -77,16 +77,16 @@ module _ (fan : ℕ) where
 
 module _ (fan m : ℕ) (bytes : ℕ → ℕ) (free : List ℕ) where
   -- a new leaf, and a new inner block: its height, its children, and the slot of each
-  pub fresh-leaf : (j k : ℕ) → freshCell fan m bytes free 0 j k ≡ record { height = 0; row = replicate (bytes j) 0 }
+  pub fresh-leaf : (j k : ℕ) → freshCell fan m bytes free 0 j k ≡ record { height = 0; items = replicate (bytes j) 0 }
   unfolding freshCell
   fresh-leaf j k = refl
 
-  pub fresh-count : (h j k : ℕ) → length (freshCell fan m bytes free (suc h) j k .row) ≡ min fan (up (m - j) (fan ^ h))
+  pub fresh-count : (h j k : ℕ) → length (freshCell fan m bytes free (suc h) j k .items) ≡ min fan (up (m - j) (fan ^ h))
   unfolding freshCell newRow places
   fresh-count h j k = every-length free (bulk fan h) (min fan (up (m - j) (fan ^ h))) (suc k)
 
   pub fresh-child : (h j k c : ℕ) → c < min fan (up (m - j) (fan ^ h))
-      → getD (freshCell fan m bytes free (suc h) j k .row) c past ≡ getD free (k + 1 + c * bulk fan h) past
+      → getD (freshCell fan m bytes free (suc h) j k .items) c past ≡ getD free (k + 1 + c * bulk fan h) past
   unfolding freshCell newRow places
   fresh-child h j k c less =
       let z : k + 1 + c * bulk fan h ≡ suc k + c * bulk fan h = omega arith in
@@ -139,7 +139,7 @@ module _ (e : Edition) (len : ℕ) (x : Site) where
   short-gone late = rw (le-leb (leavesFor (e .leaf) len) (x .first) late) (none (replaced e len x))
     where
       none : (b : Bool) → pick b nothing (pick true nothing
-          (just (record { height = x .height; row = cutRow e len (x .height) (x .first) (x .row) }))) ≡ nothing
+          (just (record { height = x .height; items = cutRow e len (x .height) (x .first) (x .items) }))) ≡ nothing
       none true = refl
       none false = refl
 
@@ -150,20 +150,20 @@ module _ (e : Edition) (len : ℕ) (x : Site) where
 
   -- kept, with its row cut: off the left edge
   pub short-off : 1 ≤ x .first → x .first < leavesFor (e .leaf) len
-      → shortened e len x ≡ just (record { height = x .height; row = cutRow e len (x .height) (x .first) (x .row) })
+      → shortened e len x ≡ just (record { height = x .height; items = cutRow e len (x .height) (x .first) (x .items) })
   unfolding shortened replaced cut gone both pick
   short-off off early = rw (ne-eqb (x .first) 0 (λ q. omega arith), lt-leb (leavesFor (e .leaf) len) (x .first) early)
 
   -- or lower than the new root
   pub short-low : x .height < heightOfLength e len → x .first < leavesFor (e .leaf) len
-      → shortened e len x ≡ just (record { height = x .height; row = cutRow e len (x .height) (x .first) (x .row) })
+      → shortened e len x ≡ just (record { height = x .height; items = cutRow e len (x .height) (x .first) (x .items) })
   unfolding shortened replaced cut gone both pick
   short-low low early =
       rw (lt-leb (heightOfLength e len) (x .height) low, lt-leb (leavesFor (e .leaf) len) (x .first) early) (kept (eqb (x .first) 0))
     where
       kept : (b : Bool) → pick (both b false) nothing
-          (pick false nothing (just (record { height = x .height; row = cutRow e len (x .height) (x .first) (x .row) })))
-          ≡ just (record { height = x .height; row = cutRow e len (x .height) (x .first) (x .row) })
+          (pick false nothing (just (record { height = x .height; items = cutRow e len (x .height) (x .first) (x .items) })))
+          ≡ just (record { height = x .height; items = cutRow e len (x .height) (x .first) (x .items) })
       kept true = refl
       kept false = refl
 

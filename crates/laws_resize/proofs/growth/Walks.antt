@@ -16,7 +16,7 @@ use Rattle.meaning.specs.declared.Role.the-variants.{Root, Child}
 use Rattle.meaning.specs.Lists.{both, joined}
 use Rattle.meaning.specs.Bytes.{block, heightOf, childrenOf, state}
 use Rattle.meaning.specs.Tree.{Tree, Blob, slotOf, rootOf, cellsOf, slotsOf, nothing, held}
-use Rattle.meaning.specs.Walk.{fine, isEmpty, row, visit, fromRoot}
+use Rattle.meaning.specs.Walk.{fine, isEmpty, visitRow, visit, fromRoot}
 use Rattle.laws.proofs.Inversions.{by-test, passed-linked}
 use Rattle.laws.proofs.Walked.{leaf-found, inner-found, none-found, row-found, root-found}
 use Rattle.laws.proofs.Marks.{visit-link}
@@ -120,7 +120,7 @@ module _ (e : Edition) (N : ℕ) (P R : List ℕ) where
 
   -- a row
   rows-visited : (h : ℕ) → Visited h → (q : ℕ) (edge : Bool) (cs seen : List ℕ) (ts : List (Tree h)) (seen′ : List ℕ)
-      → row e N P R (visit e N P R h) q edge cs seen ≡ fine ts seen′ → length seen ≡ N
+      → visitRow e N P R (visit e N P R h) q edge cs seen ≡ fine ts seen′ → length seen ≡ N
       → Went seen seen′ (joined (map (slots h) ts)) × Every (New R seen) (joined (map (slots h) ts))
   unfolding joined
   rows-visited h each q edge [] seen ts seen′ v all =

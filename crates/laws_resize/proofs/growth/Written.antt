@@ -63,7 +63,7 @@ module _ (e : Edition) (some : 1 ≤ e .leaf) (two : 2 ≤ e .fan) (d : List ℕ
   unfolding ShapedTree cells refill sites ruled written rewritten entry part
   tree-written zero i root edge t s = refl
   tree-written (suc h) i root edge t s =
-      ap₂ (λ (row : List ℕ) (rest : List (ℕ × Cell)). (t .0, record { height = suc h; row = row }) ∷ rest)
+      ap₂ (λ (row : List ℕ) (rest : List (ℕ × Cell)). (t .0, record { height = suc h; items = row }) ∷ rest)
       (along-slots h (drop (e .leaf * i) d) (t .1)) (row-written h (tree-written h) i edge (t .1) (s .2))
 
 -- write: the leaf with number i holds its stretch, from leaf * i on, and every other block what it held

@@ -14,7 +14,7 @@ use Rattle.meaning.specs.Lists.{joined}
 use Rattle.meaning.specs.Edition.{Proper}
 use Rattle.meaning.specs.Bytes.{Cell, encoded}
 use Rattle.meaning.specs.Tree.{Tree, Blob, slotOf, content, cells, contentOf, cellsOf, slotsOf}
-use Rattle.meaning.specs.Shape.{most, InRow, ShapedTree, Shaped}
+use Rattle.meaning.specs.Shape.{mostCount, InRow, ShapedTree, Shaped}
 use Rattle.laws.proofs.Checks.{used-fits}
 use Rattle.laws.proofs.Codec.{take-small, drop-small, row-length, encoded-small, cellOf, cell-read}
 use Rattle.laws_resize.proofs.resizing.SlotCounts.{slots, slots-inner, own-slots, blob-slots}
@@ -63,8 +63,8 @@ in-row {A} on edge {x} (y ∷ (z ∷ l)) r m = by (in-row on edge (z ∷ l) (r .
     by rest (inr later) = rest later
 
 -- a claim of a tree and one of its cells: of the root's, and handed up from each child
-by-cell : (P : (h : ℕ) → Tree h → ℕ × Cell → Type 0) → ((t : Tree 0) → P 0 t (t .0, record { height = 0; row = t .1 }))
-    → ((h : ℕ) (t : Tree (suc h)) → P (suc h) t (t .0, record { height = suc h; row = map (slotOf h) (t .1) }))
+by-cell : (P : (h : ℕ) → Tree h → ℕ × Cell → Type 0) → ((t : Tree 0) → P 0 t (t .0, record { height = 0; items = t .1 }))
+    → ((h : ℕ) (t : Tree (suc h)) → P (suc h) t (t .0, record { height = suc h; items = map (slotOf h) (t .1) }))
     → ((h : ℕ) (t : Tree (suc h)) (u : Tree h) (c : ℕ × Cell) → List·Memᴰ u (t .1) → P h u c → P (suc h) t c)
     → (h : ℕ) (t : Tree h) (c : ℕ × Cell) → List·Memᴰ c (cells h t) → P h t c
 unfolding cells
@@ -72,7 +72,7 @@ by-cell P leaf root up zero t c m = rw (List·Memᴰ·eq-of-singleton m) (leaf t
 by-cell P leaf root up (suc h) t c m = by (by-cell P leaf root up h) (List·Memᴰ·cases-cons m)
   where
     by : ((u : Tree h) (c : ℕ × Cell) → List·Memᴰ c (cells h u) → P h u c)
-        → (c ≡ (t .0, record { height = suc h; row = map (slotOf h) (t .1) })) ⊎ List·Memᴰ c (joined (map (cells h) (t .1))) → P (suc h) t c
+        → (c ≡ (t .0, record { height = suc h; items = map (slotOf h) (t .1) })) ⊎ List·Memᴰ c (joined (map (cells h) (t .1))) → P (suc h) t c
     by each (inl q) = rw q (root h t)
     by each (inr later) =
         let child = in-joined (cells h) (t .1) later in
@@ -91,11 +91,11 @@ module _ (b : Blob) (c : ℕ × Cell) (within : List·Memᴰ c (cellsOf b)) wher
       (b .height) (b .tree) c within
 
   -- the child slots in it are the blob's own
-  pub cell-children : (c .1 .height ≡ 0 → ⊥) → (x : ℕ) → List·Memᴰ x (c .1 .row) → List·Memᴰ x (slotsOf b)
+  pub cell-children : (c .1 .height ≡ 0 → ⊥) → (x : ℕ) → List·Memᴰ x (c .1 .items) → List·Memᴰ x (slotsOf b)
   unfolding cellsOf
   cell-children =
       rw (blob-slots b)
-      (by-cell (λ h t c. (c .1 .height ≡ 0 → ⊥) → (x : ℕ) → List·Memᴰ x (c .1 .row) → List·Memᴰ x (slots h t)) (λ t inner. absurd (inner refl))
+      (by-cell (λ h t c. (c .1 .height ≡ 0 → ⊥) → (x : ℕ) → List·Memᴰ x (c .1 .items) → List·Memᴰ x (slots h t)) (λ t inner. absurd (inner refl))
       (λ h t inner x m.
       let child = Memᴰ·of-map (slotOf h) (t .1) m in
       rw (slots-inner h (t .0) (t .1), ← child .2)
@@ -104,19 +104,19 @@ module _ (b : Blob) (c : ℕ × Cell) (within : List·Memᴰ c (cellsOf b)) wher
       (b .height) (b .tree) c within)
 
   -- it holds no more than its height's most: a leaf's bytes fit the payload
-  pub cell-most : (e : Edition) → Shaped e b → length (c .1 .row) ≤ most e (c .1 .height)
+  pub cell-most : (e : Edition) → Shaped e b → length (c .1 .items) ≤ mostCount e (c .1 .height)
   unfolding cellsOf Shaped ShapedTree
   cell-most e s =
-      by-cell (λ h t c. (root edge : Bool) → ShapedTree e h root edge t → length (c .1 .row) ≤ most e (c .1 .height)) (λ t root edge s. s .1)
+      by-cell (λ h t c. (root edge : Bool) → ShapedTree e h root edge t → length (c .1 .items) ≤ mostCount e (c .1 .height)) (λ t root edge s. s .1)
       (λ h t root edge s. rw (length-map (t .1) (slotOf h)) (s .1))
       (λ h t u c i each root edge s. let r = in-row (ShapedTree e h false) edge (t .1) (s .2) i in each false (r .0) (r .1))
       (b .height) (b .tree) c within true true s
 
   -- a leaf's bytes are below what the content's are below
-  pub cell-small : {m : ℕ} → ((i : ℕ) → getD (contentOf b) i 0 < m) → c .1 .height ≡ 0 → (i : ℕ) → getD (c .1 .row) i 0 < m
+  pub cell-small : {m : ℕ} → ((i : ℕ) → getD (contentOf b) i 0 < m) → c .1 .height ≡ 0 → (i : ℕ) → getD (c .1 .items) i 0 < m
   unfolding cellsOf contentOf content
   cell-small {m} small =
-      by-cell (λ h t c. ((i : ℕ) → getD (content h t) i 0 < m) → c .1 .height ≡ 0 → (i : ℕ) → getD (c .1 .row) i 0 < m) (λ t small leaf. small)
+      by-cell (λ h t c. ((i : ℕ) → getD (content h t) i 0 < m) → c .1 .height ≡ 0 → (i : ℕ) → getD (c .1 .items) i 0 < m) (λ t small leaf. small)
       (λ h t small leaf. absurd (omega arith)) (λ h t u c i each small leaf. each (joined-small (content h) i small) leaf)
       (b .height) (b .tree) c within small
 
@@ -126,8 +126,8 @@ module _ (b : Blob) (c : ℕ × Cell) (within : List·Memᴰ c (cellsOf b)) wher
         → cellOf (c .1 .height) (encoded e (c .1) slot version) ≡ c .1
     cell-decodes few slot version =
         cell-read e p (c .1) slot version
-        (rw (row-length (c .1 .height) (c .1 .row)) (used-fits e p (c .1 .height) (length (c .1 .row)) (cell-most e s)))
-        (λ inner. members-small (c .1 .row) (omega arith) (λ x m. few x (cell-children inner x m)))
+        (rw (row-length (c .1 .height) (c .1 .items)) (used-fits e p (c .1 .height) (length (c .1 .items)) (cell-most e s)))
+        (λ inner. members-small (c .1 .items) (omega arith) (λ x m. few x (cell-children inner x m)))
 
     -- that block is bytes, if the content is and the root is no higher than it may be
     pub cell-written : ((i : ℕ) → getD (contentOf b) i 0 < 256) → b .height ≤ e .top → (slot version i : ℕ)
@@ -135,6 +135,6 @@ module _ (b : Blob) (c : ℕ × Cell) (within : List·Memᴰ c (cellsOf b)) wher
     cell-written small low slot version =
         encoded-small e (c .1) slot version (p .bytes) (omega (arith, cell-height, p .low)) (by (c .1 .height) (cell-most e s)) (cell-small small)
       where
-        by : (h : ℕ) → length (c .1 .row) ≤ most e h → length (c .1 .row) < 256
-        by zero le = unfold most in omega (arith, p .byte)
-        by (suc h) le = unfold most in omega (arith, p .byte, p .fills)
+        by : (h : ℕ) → length (c .1 .items) ≤ mostCount e h → length (c .1 .items) < 256
+        by zero le = unfold mostCount in omega (arith, p .byte)
+        by (suc h) le = unfold mostCount in omega (arith, p .byte, p .fills)

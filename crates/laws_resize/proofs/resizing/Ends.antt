@@ -8,7 +8,7 @@ use native.Mathlib.Omega.{arith}
 use lib.ListN.{length, length-append}
 use Rattle.meaning.specs.declared.Edition.{Edition}
 use Rattle.meaning.specs.Lists.{pick, joined, ofLast, mapLast}
-use Rattle.meaning.specs.Shape.{least, InRow}
+use Rattle.meaning.specs.Shape.{leastCount, InRow}
 use Rattle.meaning.specs.Resize.{onLast}
 use Rattle.laws.proofs.Positions.{row-append}
 
@@ -77,8 +77,8 @@ module _ {A : Type 0} (on : Bool → A → Type 0) (edge : Bool) where
   row-cons x (y ∷ l) h a r = (a, r)
 
 -- an inner block has a child
-pub some-child : (e : Edition) → 2 ≤ e .fan → (h : ℕ) (edge root : Bool) (c : ℕ) → least e (suc h) edge root ≤ c → 1 ≤ c
-unfolding least pick
+pub some-child : (e : Edition) → 2 ≤ e .fan → (h : ℕ) (edge root : Bool) (c : ℕ) → leastCount e (suc h) edge root ≤ c → 1 ≤ c
+unfolding leastCount pick
 some-child e two h true true c s = omega arith
 some-child e two h true false c s = s
 some-child e two h false root c s = omega arith

@@ -13,7 +13,7 @@ use borrow.Author.Tests.{ltb-true, ltb-false}
 use Rattle.meaning.specs.declared.Edition.{Edition}
 use Rattle.meaning.specs.Lists.{pick, joined, ofLast}
 use Rattle.meaning.specs.Tree.{Tree, slotOf, atSlot, content, leaves}
-use Rattle.meaning.specs.Shape.{least, most, InRow, ShapedTree}
+use Rattle.meaning.specs.Shape.{leastCount, mostCount, InRow, ShapedTree}
 use Rattle.meaning.specs.Resize.{lowest, chain, onLast, roomy, hang}
 use Rattle.laws.proofs.Shapes.{OfRow, row-counted}
 use Rattle.laws_resize.proofs.resizing.Ends.{by-last, length-snoc, joined-snoc, onLast-snoc, ofLast-snoc, row-snoc, row-apart, some-child}
@@ -131,7 +131,7 @@ module _ (e : Edition) (some : 1 ≤ e .leaf) (two : 2 ≤ e .fan) where
 
   -- a chain is shaped as a tree on the edge
   chain-shaped : (h : ℕ) (d free : List ℕ) → 1 ≤ length d → length d ≤ e .leaf → ShapedTree e h false true (chain h d free .0)
-  unfolding chain ShapedTree least most pick InRow
+  unfolding chain ShapedTree leastCount mostCount pick InRow
   chain-shaped zero d free low high = (low, high)
   chain-shaped (suc h) d free low high = (omega arith, omega arith, chain-shaped h d (drop 1 free) low high)
 
@@ -171,7 +171,7 @@ module _ (e : Edition) (some : 1 ≤ e .leaf) (two : 2 ≤ e .fan) where
 
   -- at every height
   pub told : (h : ℕ) → Told h
-  unfolding Told OfRow roomy leaves ShapedTree Room pick most
+  unfolding Told OfRow roomy leaves ShapedTree Room pick mostCount
   told zero root t s = omega (arith, pow-zero (e .fan))
   told (suc h) root t s =
       by (ltb (length (t .1)) (e .fan)) refl (told-row h (told h) (t .1) (some-child e two h true root _ (s .0)) (s .2))
@@ -212,7 +212,7 @@ module _ (e : Edition) (some : 1 ≤ e .leaf) (two : 2 ≤ e .fan) where
 
   -- at every height
   pub whole : (h : ℕ) → Whole h
-  unfolding Whole Full roomy ShapedTree least most pick content leaves
+  unfolding Whole Full roomy ShapedTree leastCount mostCount pick content leaves
   whole zero root t s off f = (omega arith, s .1)
   whole (suc h) root t s off f =
       let p = pick-false (ltb (length (t .1)) (e .fan)) _ off in (
@@ -230,8 +230,8 @@ module _ (e : Edition) (some : 1 ≤ e .leaf) (two : 2 ≤ e .fan) where
   module _ (d free : List ℕ) (low : 1 ≤ length d) (high : length d ≤ e .leaf) where
     -- behind a row of full trees
     pub hung-broad : (h : ℕ) (root : Bool) (r : ℕ) (ts : List (Tree h)) → ofLast (roomy (e .fan) h) ts ≡ false → InRow (ShapedTree e h false) false ts
-        → length ts < e .fan → least e (suc h) true root ≤ suc (length ts) → Hung (suc h) root d free (r, ts) (hang (e .fan) (suc h) d free (r, ts))
-    unfolding ShapedTree most content
+        → length ts < e .fan → leastCount e (suc h) true root ≤ suc (length ts) → Hung (suc h) root d free (r, ts) (hang (e .fan) (suc h) d free (r, ts))
+    unfolding ShapedTree mostCount content
     hung-broad h root r ts off row room fits =
         let new = chain h d free .0 in
         rw (hang-broad (e .fan) h r d free ts off) (record {
@@ -257,7 +257,7 @@ module _ (e : Edition) (some : 1 ≤ e .leaf) (two : 2 ≤ e .fan) where
     -- a row, if its last tree does
     hangs-row : (h : ℕ) → Hangs h → (root : Bool) (r : ℕ) (ts : List (Tree h)) → 1 ≤ length ts → ShapedTree e (suc h) root true (r, ts)
         → roomy (e .fan) (suc h) (r, ts) ≡ true → Full (suc h) (r, ts) → Hung (suc h) root d free (r, ts) (hang (e .fan) (suc h) d free (r, ts))
-    unfolding Hangs Full ShapedTree content leaves most roomy
+    unfolding Hangs Full ShapedTree content leaves mostCount roomy
     hangs-row h each root r = by-last (λ ts. ShapedTree e (suc h) root true (r, ts) → roomy (e .fan) (suc h) (r, ts) ≡ true → Full (suc h) (r, ts)
         → Hung (suc h) root d free (r, ts) (hang (e .fan) (suc h) d free (r, ts)))
         (λ front x s room f. by front x s room f (roomy (e .fan) h x) refl)

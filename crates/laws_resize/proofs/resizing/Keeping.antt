@@ -13,7 +13,7 @@ use borrow.Author.Tests.{ne-eqb}
 use Rattle.meaning.specs.declared.Edition.{Edition}
 use Rattle.meaning.specs.Lists.{pick, joined}
 use Rattle.meaning.specs.Tree.{Tree, slotOf, content, leaves}
-use Rattle.meaning.specs.Shape.{least, most, InRow, ShapedTree}
+use Rattle.meaning.specs.Shape.{leastCount, mostCount, InRow, ShapedTree}
 use Rattle.meaning.specs.Resize.{keepRow, keep}
 use Rattle.laws.proofs.Shapes.{OfTree, tree-counted}
 use Rattle.laws_resize.proofs.resizing.Ends.{row-cons, some-child}
@@ -156,7 +156,7 @@ module _ (e : Edition) (some : 1 ≤ e .leaf) (two : 2 ≤ e .fan) where
   -- an inner block with its row
   pub inner-shaped : (h : ℕ) → KeptShaped h → (root edge : Bool) (t : Tree (suc h)) (n : ℕ) → ShapedTree e (suc h) root edge t → 1 ≤ n
       → ShapedTree e (suc h) false true (keep (suc h) n t)
-  unfolding ShapedTree most least pick
+  unfolding ShapedTree mostCount leastCount pick
   inner-shaped h each root edge t n s low =
       rw (keep-inner h n t) (
         kept-some h n (t .1) low (some-child e two h edge root _ (s .0)),
@@ -166,7 +166,7 @@ module _ (e : Edition) (some : 1 ≤ e .leaf) (two : 2 ≤ e .fan) where
 
   -- at every height
   pub keep-shaped : (h : ℕ) → KeptShaped h
-  unfolding KeptShaped ShapedTree most least pick
+  unfolding KeptShaped ShapedTree mostCount leastCount pick
   keep-shaped zero true t n s low = unfold keep in s
   keep-shaped zero false t n s low = unfold keep in (omega arith, s .1)
   keep-shaped (suc h) edge t n s low = inner-shaped h (keep-shaped h) false edge t n s low
@@ -202,7 +202,7 @@ module _ (e : Edition) (some : 1 ≤ e .leaf) (two : 2 ≤ e .fan) where
 
   -- at every height
   pub keep-content : (h : ℕ) → KeptBytes h
-  unfolding KeptBytes ShapedTree content most
+  unfolding KeptBytes ShapedTree content mostCount
   keep-content zero root edge t n s low =
       unfold keep in sym (take-all (e .leaf * n) (t .1) (omega (arith, mul-le-mul-left (e .leaf) low, s .1)))
   keep-content (suc h) root edge t n s low =

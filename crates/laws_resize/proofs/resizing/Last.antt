@@ -12,7 +12,7 @@ use lib.Seq.{take-all, take-add, take-append-add, take-append-le}
 use Rattle.meaning.specs.declared.Edition.{Edition}
 use Rattle.meaning.specs.Lists.{pick, joined, mapLast, padded}
 use Rattle.meaning.specs.Tree.{Tree, Blob, slotOf, content, leaves, leavesOf}
-use Rattle.meaning.specs.Shape.{leavesFor, least, most, InRow, ShapedTree, Shaped}
+use Rattle.meaning.specs.Shape.{leavesFor, leastCount, mostCount, InRow, ShapedTree, Shaped}
 use Rattle.meaning.specs.Resize.{lastLeaf, share, lastBytes}
 use Rattle.laws.proofs.Totals.{leaves-zero, leaves-some, leaves-tight}
 use Rattle.laws.proofs.Heights.{height-small}
@@ -67,9 +67,9 @@ last-length e len n c = padded-length (min (e .leaf) (len - e .leaf * (n - 1))) 
 pub last-joined : (e : Edition) (len n : ℕ) (c : List ℕ) → 1 ≤ n → e .leaf * (n - 1) ≤ length c → e .leaf * (n - 1) ≤ len
     → take (e .leaf * (n - 1)) c ++ lastBytes e len n c ≡ padded (min (e .leaf * n) len) c
 unfolding lastBytes share
-last-joined e len n c least fits low =
+last-joined e len n c leastCount fits low =
     let k = e .leaf * (n - 1) in
-    let z : k + min (e .leaf) (len - k) ≡ min (e .leaf * n) len = omega (arith, before-last (e .leaf) n least) in
+    let z : k + min (e .leaf) (len - k) ≡ min (e .leaf * n) len = omega (arith, before-last (e .leaf) n leastCount) in
     padded-after k (min (e .leaf) (len - k)) c fits ∙ ap (λ (m : ℕ). padded m c) z
 
 -- the root stays in its slot
@@ -106,7 +106,7 @@ module _ (e : Edition) (some : 1 ≤ e .leaf) (two : 2 ≤ e .fan) where
   -- a tree on the edge keeps its shape, if the last leaf has a byte or more
   last-edge : (h : ℕ) (d : List ℕ) → 1 ≤ length d → length d ≤ e .leaf → (t : Tree h) → ShapedTree e h false true t
       → ShapedTree e h false true (lastLeaf h d t)
-  unfolding ShapedTree lastLeaf least most pick
+  unfolding ShapedTree lastLeaf leastCount mostCount pick
   last-edge zero d low high t s = (low, high)
   last-edge (suc h) d low high t s =
       let n = mapLast-length (lastLeaf h d) (t .1) in
@@ -115,7 +115,7 @@ module _ (e : Edition) (some : 1 ≤ e .leaf) (two : 2 ≤ e .fan) where
   -- a root's tree too, and if the root is the last leaf then with no byte as well
   pub last-shaped : (h : ℕ) (d : List ℕ) → (1 ≤ h → 1 ≤ length d) → length d ≤ e .leaf → (t : Tree h) → ShapedTree e h true true t
       → ShapedTree e h true true (lastLeaf h d t)
-  unfolding ShapedTree lastLeaf least most pick
+  unfolding ShapedTree lastLeaf leastCount mostCount pick
   last-shaped zero d low high t s = (omega arith, high)
   last-shaped (suc h) d low high t s =
       let n = mapLast-length (lastLeaf h d) (t .1) in

@@ -12,7 +12,7 @@ use borrow.Author.Tests.{eq-eqb, ne-eqb}
 use Rattle.meaning.specs.declared.Edition.{Edition}
 use Rattle.meaning.specs.Lists.{pick, joined, ofLast, padded}
 use Rattle.meaning.specs.Tree.{Tree, Blob, slotOf, atSlot, content, leaves, rootOf, contentOf, leavesOf, slotsOf, lengthOf}
-use Rattle.meaning.specs.Shape.{leavesFor, total, least, InRow, ShapedTree, Shaped}
+use Rattle.meaning.specs.Shape.{leavesFor, total, leastCount, InRow, ShapedTree, Shaped}
 use Rattle.meaning.specs.Resize.{lowest, roomy, hang, raised, addLeaf, addLeaves, lastLeaf, share, shares, lastBytes, longer}
 use Rattle.laws.proofs.Totals.{leaves-some, leaves-fit, leaves-mono, leaves-is}
 use Rattle.laws.proofs.Heights.{height-enough}
@@ -55,7 +55,7 @@ module _ (e : Edition) (some : 1 ≤ e .leaf) (two : 2 ≤ e .fan) where
     added-tall : (h : ℕ) (t : Tree h) (free : List ℕ) → ShapedTree e h true true t → Full e some two h t → roomy (e .fan) h t ≡ false
         → let new = hang (e .fan) (suc h) d (drop 1 free) (raised h free t) in
         Longer e d free (record { height = h; tree = t }) (record { height = suc h; tree = new .0 }) (new .1)
-    unfolding Whole Shaped rootOf contentOf raised content joined ofLast InRow least pick slotOf
+    unfolding Whole Shaped rootOf contentOf raised content joined ofLast InRow leastCount pick slotOf
     added-tall h t free s f off =
         let moved = atSlot h (lowest free) t in
         let g = hung-broad e some two d (drop 1 free) low high h true (slotOf h t) (moved ∷ []) (moved-roomy (e .fan) h (lowest free) t ∙ off)

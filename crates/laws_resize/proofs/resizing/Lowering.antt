@@ -9,7 +9,7 @@ use lib.ListN.{length}
 use Rattle.meaning.specs.declared.Edition.{Edition}
 use Rattle.meaning.specs.Lists.{pick, joined, mapLast, only}
 use Rattle.meaning.specs.Tree.{Tree, Blob, slotOf, atSlot, content, rootOf, contentOf, slotsOf}
-use Rattle.meaning.specs.Shape.{least, most, InRow, ShapedTree, Shaped}
+use Rattle.meaning.specs.Shape.{leastCount, mostCount, InRow, ShapedTree, Shaped}
 use Rattle.meaning.specs.Resize.{lastLeaf, lower}
 use Rattle.laws_resize.proofs.resizing.Ends.{mapLast-length}
 use Rattle.laws_resize.proofs.resizing.SlotCounts.{slots, slots-inner, below, own-slots, moved-slots, times, times-cons, blob-slots}
@@ -83,7 +83,7 @@ lower-last d = by-lowering (λ h t b. lower h (lastLeaf h d t) ≡ lastOf d b) (
 
 -- a tree on the edge comes down to a blob with its shape
 pub lower-shaped : (e : Edition) (h : ℕ) (t : Tree h) → ShapedTree e h false true t → Shaped e (lower h t)
-unfolding ShapedTree Shaped least most pick InRow
+unfolding ShapedTree Shaped leastCount mostCount pick InRow
 lower-shaped e = by-lowering (λ h t b. ShapedTree e h false true t → Shaped e b) (λ t p. (omega arith, p .1))
     (λ h r ts other p. (more (length ts) other (p .0), p .1, p .2))
     (λ h r x b is p. is (moved-shaped e h false true r x (p .2)))

@@ -21,7 +21,7 @@ use Rattle.laws.proofs.Walked.{leafSlots}
 
 -- a cell with a leaf's bytes put to zero
 unfoldable pub hollow : ℕ × Cell → ℕ × Cell
-hollow c = (c .0, record { height = c .1 .height; row = pick (eqb (c .1 .height) 0) (blank (c .1 .row)) (c .1 .row) })
+hollow c = (c .0, record { height = c .1 .height; items = pick (eqb (c .1 .height) 0) (blank (c .1 .items)) (c .1 .items) })
 
 -- two cells that are the same but for a leaf's bytes are in one slot
 hollow-slot : (x y : ℕ × Cell) → hollow x ≡ hollow y → x .0 ≡ y .0
@@ -33,8 +33,8 @@ hollow-inner : (x y : ℕ × Cell) → hollow x ≡ hollow y → (y .1 .height �
 unfolding hollow pick
 hollow-inner x y same inner =
     let high : x .1 .height ≡ y .1 .height = ap (λ (c : ℕ × Cell). c .1 .height) same in
-    let rows = rw (ne-eqb (x .1 .height) 0 (λ z. inner (sym high ∙ z)), ne-eqb (y .1 .height) 0 inner) at (ap (λ (c : ℕ × Cell). c .1 .row) same) in
-    λ i. record { height = high i; row = rows i }
+    let rows = rw (ne-eqb (x .1 .height) 0 (λ z. inner (sym high ∙ z)), ne-eqb (y .1 .height) 0 inner) at (ap (λ (c : ℕ × Cell). c .1 .items) same) in
+    λ i. record { height = high i; items = rows i }
 
 -- so lists of cells that are the same but for the leaves' bytes hold the same inner cells
 held-inner : (xs ys : List (ℕ × Cell)) → map hollow xs ≡ map hollow ys → (s : ℕ) (c : Cell) → held ys s ≡ just c → (c .height ≡ 0 → ⊥)
@@ -150,7 +150,7 @@ cells-row h each d (t ∷ ts) fits =
 keeps-cells : (h : ℕ) → KeepsCells h
 unfolding KeepsCells refill cells content hollow pick
 keeps-cells zero d t fits =
-    ap (λ (row : List ℕ). (t .0, record { height = 0; row = row }) ∷ [])
+    ap (λ (row : List ℕ). (t .0, record { height = 0; items = row }) ∷ [])
     (blank-same (take (length (t .1)) d) (t .1) (length-take-le (length (t .1)) d fits))
 keeps-cells (suc h) d t fits = rw (along-slots h d (t .1), cells-row h (keeps-cells h) d (t .1) fits)
 

@@ -16,7 +16,7 @@ use Rattle.meaning.specs.declared.Edition.{Edition}
 use Rattle.meaning.specs.Lists.{joined}
 use Rattle.meaning.specs.Edition.{Proper}
 use Rattle.meaning.specs.Tree.{Tree, Blob, slotOf, leaves, leavesOf, lengthOf}
-use Rattle.meaning.specs.Shape.{most, InRow, ShapedTree, Shaped}
+use Rattle.meaning.specs.Shape.{mostCount, InRow, ShapedTree, Shaped}
 use Rattle.meaning.specs.Resize.{share}
 use Rattle.laws.proofs.Positions.{leaf-full, leaf-most, length-by-last}
 use Rattle.laws_resize.proofs.resizing.Ends.{some-child}
@@ -29,8 +29,8 @@ use Rattle.laws_resize.proofs.growth.Places.{sited-listed, own-site}
 record Within (e : Edition) (i : ℕ) (ls : List (ℕ × List ℕ)) (x : Site) : Type 0 where
   from : i ≤ x .first
   before : x .first < i + length ls
-  fits : length (x .row) ≤ most e (x .height)
-  leaf : x .height ≡ 0 → getD ls (x .first - i) (0, []) .1 ≡ x .row
+  fits : length (x .items) ≤ mostCount e (x .height)
+  leaf : x .height ≡ 0 → getD ls (x .first - i) (0, []) .1 ≡ x .items
 
 -- with trees after them
 within-left : (e : Edition) (i : ℕ) (ls ms : List (ℕ × List ℕ)) (x : Site) → Within e i ls x → Within e i (ls ++ ms) x
@@ -81,8 +81,8 @@ module _ (e : Edition) (some : 1 ≤ e .leaf) (two : 2 ≤ e .fan) where
 
   -- the top of a tree, over a row of trees that is not empty
   top-within : (h i : ℕ) (edge : Bool) (ts : List (Tree h)) → InRow (ShapedTree e h false) edge ts → 1 ≤ length ts → length ts ≤ e .fan
-      → (x : Site) → x ≡ record { height = suc h; first = i; row = map (slotOf h) ts } → Within e i (joined (map (leaves h) ts)) x
-  unfolding InRow most
+      → (x : Site) → x ≡ record { height = suc h; first = i; items = map (slotOf h) ts } → Within e i (joined (map (leaves h) ts)) x
+  unfolding InRow mostCount
   top-within h i edge [] r low high x q = absurd (omega arith)
   top-within h i edge (t ∷ ts) r low high x q =
       let c = first ts r in
@@ -99,15 +99,15 @@ module _ (e : Edition) (some : 1 ≤ e .leaf) (two : 2 ≤ e .fan) where
 
   -- a block of a tree
   tree-within : (h : ℕ) → TreeWithin h
-  unfolding ShapedTree sites leaves most
+  unfolding ShapedTree sites leaves mostCount
   tree-within zero i root edge t sh s x m =
-      let q : x ≡ record { height = 0; first = i; row = t .1 } = ap (λ z. z .1) (List·Memᴰ·eq-of-singleton m) in
+      let q : x ≡ record { height = 0; first = i; items = t .1 } = ap (λ z. z .1) (List·Memᴰ·eq-of-singleton m) in
       let z : i - i ≡ 0 = omega arith in
       rw q (record { from = omega arith; before = omega arith; fits = sh .1; leaf = λ low. rw z })
   tree-within (suc h) i root edge t sh s x m = by (row-within h (tree-within h) i edge (t .1) (sh .2) s x) (List·Memᴰ·cases-cons m)
     where
       by : (List·Memᴰ (s, x) (counting (count h) (sites h) i (t .1)) → Within e i (joined (map (leaves h) (t .1))) x)
-          → (_≡_ {A = ℕ × Site} (s, x) (t .0, record { height = suc h; first = i; row = map (slotOf h) (t .1) }))
+          → (_≡_ {A = ℕ × Site} (s, x) (t .0, record { height = suc h; first = i; items = map (slotOf h) (t .1) }))
           ⊎ List·Memᴰ (s, x) (counting (count h) (sites h) i (t .1)) → Within e i (joined (map (leaves h) (t .1))) x
       by rest (inl q) = top-within h i edge (t .1) (sh .2) (some-child e two h edge root _ (sh .0)) (sh .1) x (ap (λ z. z .1) q)
       by rest (inr a) = rest a
@@ -115,20 +115,20 @@ module _ (e : Edition) (some : 1 ≤ e .leaf) (two : 2 ≤ e .fan) where
 -- a shaped blob, and a block among all its leaves
 module _ (e : Edition) (proper : Proper e) (b : Blob) (shaped : Shaped e b) (x : Site) (w : Within e 0 (leavesOf b) x) where
   -- a leaf's row is the bytes of the leaf with its number
-  within-leaf : x .height ≡ 0 → x .row ≡ getD (leavesOf b) (x .first) (0, []) .1
+  within-leaf : x .height ≡ 0 → x .items ≡ getD (leavesOf b) (x .first) (0, []) .1
   within-leaf low =
       let z : x .first - 0 ≡ x .first = omega arith in
       sym (w .leaf low) ∙ ap (λ (j : ℕ). getD (leavesOf b) j (0, []) .1) z
 
   -- and no more than its share of a length that is not smaller
-  within-share : (len : ℕ) → lengthOf b ≤ len → x .height ≡ 0 → length (x .row) ≤ share e len (x .first)
+  within-share : (len : ℕ) → lengthOf b ≤ len → x .height ≡ 0 → length (x .items) ≤ share e len (x .first)
   unfolding share
   within-share len long low = go (decLe (suc (suc (x .first))) (length (leavesOf b)))
     where
-      row : length (x .row) ≡ length (getD (leavesOf b) (x .first) (0, []) .1)
+      row : length (x .items) ≡ length (getD (leavesOf b) (x .first) (0, []) .1)
       row = ap length (within-leaf low)
 
-      go : Dec (suc (suc (x .first)) ≤ length (leavesOf b)) → length (x .row) ≤ min (e .leaf) (len - e .leaf * x .first)
+      go : Dec (suc (suc (x .first)) ≤ length (leavesOf b)) → length (x .items) ≤ min (e .leaf) (len - e .leaf * x .first)
       go (yes inner) =
           let j = length (leavesOf b) - 1 in
           let last = length-by-last e (proper .some) (proper .two) b shaped j (omega arith) in
@@ -154,28 +154,28 @@ module _ (e : Edition) (proper : Proper e) (b : Blob) (shaped : Shaped e b) (s :
   site-first = omega (arith, site-within .before)
 
   -- it holds no more than a block of its height may
-  pub site-most : length (x .row) ≤ most e (x .height)
+  pub site-most : length (x .items) ≤ mostCount e (x .height)
   site-most = site-within .fits
 
   -- a leaf's row is its bytes
-  pub site-leaf : x .height ≡ 0 → x .row ≡ getD (leavesOf b) (x .first) (0, []) .1
+  pub site-leaf : x .height ≡ 0 → x .items ≡ getD (leavesOf b) (x .first) (0, []) .1
   site-leaf low = within-leaf e proper b shaped x site-within low
 
   -- and no more than its share
-  pub leaf-share : (len : ℕ) → lengthOf b ≤ len → x .height ≡ 0 → length (x .row) ≤ share e len (x .first)
+  pub leaf-share : (len : ℕ) → lengthOf b ≤ len → x .height ≡ 0 → length (x .items) ≤ share e len (x .first)
   leaf-share len long low = within-share e proper b shaped x site-within len long low
 
 -- the root
 module _ (e : Edition) (proper : Proper e) (b : Blob) (shaped : Shaped e b) where
   -- is among them
-  root-within : Within e 0 (leavesOf b) (record { height = b .height; first = 0; row = rootRow b })
+  root-within : Within e 0 (leavesOf b) (record { height = b .height; first = 0; items = rootRow b })
   unfolding Shaped leavesOf rootRow
   root-within =
       tree-within e (proper .some) (proper .two) (b .height) 0 true true (b .tree) shaped (slotOf (b .height) (b .tree)) _
       (own-site (b .height) 0 (b .tree))
 
   -- it holds no more than a block of its height may
-  pub root-most : length (rootRow b) ≤ most e (b .height)
+  pub root-most : length (rootRow b) ≤ mostCount e (b .height)
   root-most = root-within .fits
 
   -- and as a leaf no more than its share

@@ -37,13 +37,13 @@ unfolding sameCell both
 same-heights a b other = rw (ne-eqb (a .height) (b .height) other)
 
 -- with the same height the rows decide
-same-rows : (h : ℕ) (a b : List ℕ) → sameCell (record { height = h; row = a }) (record { height = h; row = b }) ≡ sameList a b
+same-rows : (h : ℕ) (a b : List ℕ) → sameCell (record { height = h; items = a }) (record { height = h; items = b }) ≡ sameList a b
 unfolding sameCell both
 same-rows h a b = rw (eq-eqb h h refl)
 
 -- a block that gets longer
 pub same-grown : (e : Edition) (len n : ℕ) (free : List ℕ) (h i : ℕ) (row : List ℕ) → (h ≡ 0 → length row ≤ share e len i)
-    → sameCell (record { height = h; row = row }) (record { height = h; row = grownRow e len n free h i row })
+    → sameCell (record { height = h; items = row }) (record { height = h; items = grownRow e len n free h i row })
     ≡ eqb (length (grownRow e len n free h i row)) (length row)
 unfolding grownRow
 same-grown e len n free zero i row fits = same-rows 0 row _ ∙ leaf
@@ -54,7 +54,7 @@ same-grown e len n free (suc h) i row fits = same-rows (suc h) row _ ∙ same-fr
 
 -- a block that is cut
 pub same-cut : (e : Edition) (len h i : ℕ) (row : List ℕ)
-    → sameCell (record { height = h; row = row }) (record { height = h; row = cutRow e len h i row })
+    → sameCell (record { height = h; items = row }) (record { height = h; items = cutRow e len h i row })
     ≡ eqb (length (cutRow e len h i row)) (length row)
 unfolding cutRow
 same-cut e len zero i row = same-rows 0 row _ ∙ same-take (len - e .leaf * i) row

@@ -16,7 +16,7 @@ rewritten e d zero i row = part (e .leaf * i) (length row) d
 rewritten e d (suc h) i row = row
 
 unfoldable pub written : Edition → List ℕ → Site → Held
-written e d x = just (record { height = x .height; row = rewritten e d (x .height) (x .first) (x .row) })
+written e d x = just (record { height = x .height; items = rewritten e d (x .height) (x .first) (x .items) })
 
 -- cut to len bytes: so many bytes of a leaf, so many children of an inner block
 unfoldable pub cutRow : Edition → (len : ℕ) → (h i : ℕ) → List ℕ → List ℕ
@@ -28,7 +28,7 @@ unfoldable pub gone : Edition → (len : ℕ) → Site → Bool
 gone e len x = leb (leavesFor (e .leaf) len) (x .first)
 
 unfoldable pub cut : Edition → (len : ℕ) → Site → Held
-cut e len x = pick (gone e len x) nothing (just (record { height = x .height; row = cutRow e len (x .height) (x .first) (x .row) }))
+cut e len x = pick (gone e len x) nothing (just (record { height = x .height; items = cutRow e len (x .height) (x .first) (x .items) }))
 
 -- the height that len bytes have
 unfoldable pub heightOfLength : Edition → ℕ → ℕ

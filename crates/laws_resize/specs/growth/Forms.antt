@@ -75,12 +75,12 @@ module _ (fan m : ℕ) (bytes : ℕ → ℕ) (free : List ℕ) where
 
   -- what the new block k holds, if it has this height and begins with the new leaf j
   unfoldable pub freshCell : (h j k : ℕ) → Cell
-  freshCell zero j k = record { height = 0; row = replicate (bytes j) 0 }
-  freshCell (suc h) j k = record { height = suc h; row = newRow fan h j (suc k) }
+  freshCell zero j k = record { height = 0; items = replicate (bytes j) 0 }
+  freshCell (suc h) j k = record { height = suc h; items = newRow fan h j (suc k) }
 
   -- what a root holds that is one higher than a full one of height h, if the new leaves from j on are left and its row goes to the new block b
   unfoldable pub above : (h j b : ℕ) → Cell
-  above h j b = record { height = suc h; row = getD free b past ∷ newRow (fan - 1) h j (suc b) }
+  above h j b = record { height = suc h; items = getD free b past ∷ newRow (fan - 1) h j (suc b) }
 
   -- what the root holds in the end, if it held top when it was full; it gets k higher at most
   unfoldable pub rootCell : (k h j b : ℕ) → (top : Cell) → Cell
@@ -117,11 +117,11 @@ module _ (e : Edition) (len n : ℕ) (free : List ℕ) where
   grownRow (suc h) i row = row ++ newRow (e .fan) newLeaves newBytes free (e .fan - length row) h (room (e .fan) h n) (space (e .fan) h n)
 
   unfoldable pub grown : Site → Held
-  grown x = just (record { height = x .height; row = grownRow (x .height) (x .first) (x .row) })
+  grown x = just (record { height = x .height; items = grownRow (x .height) (x .first) (x .items) })
 
   -- what the old root of height h, whose row that was, holds when it is full
   unfoldable pub topCell : (h : ℕ) → List ℕ → Cell
-  topCell h row = record { height = h; row = grownRow h 0 row }
+  topCell h row = record { height = h; items = grownRow h 0 row }
 
   -- the root in the end, and the new block p
   unfoldable pub grownRoot : (k h : ℕ) → List ℕ → Cell

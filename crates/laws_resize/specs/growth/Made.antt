@@ -20,8 +20,8 @@ upToLast f g (x ∷ (y ∷ ys)) = f x ++ upToLast f g (y ∷ ys)
 
 -- what a tree's top holds
 unfoldable pub topOf : (h : ℕ) → Tree h → Cell
-topOf zero t = record { height = 0; row = t .1 }
-topOf (suc h) t = record { height = suc h; row = map (slotOf h) (t .1) }
+topOf zero t = record { height = 0; items = t .1 }
+topOf (suc h) t = record { height = suc h; items = map (slotOf h) (t .1) }
 
 module _ (fan : ℕ) where
   -- the new blocks of fill, as they are created

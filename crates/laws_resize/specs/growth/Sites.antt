@@ -13,7 +13,7 @@ use Rattle.meaning.specs.Tree.{Tree, Blob, slotOf, leaves, Held, nothing, just}
 pub record Site : Type 0 where
   pub height : ℕ
   pub first : ℕ
-  pub row : List ℕ
+  pub items : List ℕ
 
 -- the lists that f makes of the elements, each told how many leaves lie before it
 unfoldable pub counting : {A B : Type 0} → (A → ℕ) → (ℕ → A → List B) → ℕ → List A → List B
@@ -22,9 +22,9 @@ counting count f i (x ∷ xs) = f i x ++ counting count f (i + count x) xs
 
 -- each block of a tree whose first leaf has number i, in walk order, with where it stands
 unfoldable pub sites : (h i : ℕ) → Tree h → List (ℕ × Site)
-sites zero i t = (t .0, record { height = 0; first = i; row = t .1 }) ∷ []
+sites zero i t = (t .0, record { height = 0; first = i; items = t .1 }) ∷ []
 sites (suc h) i t =
-    (t .0, record { height = suc h; first = i; row = map (slotOf h) (t .1) }) ∷ counting (λ x. length (leaves h x)) (sites h) i (t .1)
+    (t .0, record { height = suc h; first = i; items = map (slotOf h) (t .1) }) ∷ counting (λ x. length (leaves h x)) (sites h) i (t .1)
 
 unfoldable pub sitesOf : Blob → List (ℕ × Site)
 sitesOf b = sites (b .height) 0 (b .tree)
@@ -61,7 +61,7 @@ heldBy f (at x) = f x
 
 -- the rule that leaves all as it is
 unfoldable pub same : Site → Held
-same x = just (record { height = x .height; row = x .row })
+same x = just (record { height = x .height; items = x .items })
 
 -- no slot twice
 abbrev pub Lacks : List ℕ → ℕ → Type 0

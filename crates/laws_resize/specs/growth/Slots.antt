@@ -26,7 +26,7 @@ writtenHeld e b d s = heldBy (written e d) (sited (sitesOf b) s)
 unfoldable pub shorterRoot : Edition → Blob → (len : ℕ) → Cell
 shorterRoot e b len =
     let h = heightOfLength e len in
-    record { height = h; row = cutRow e len h 0 (leftmost (b .height) (b .height - h) (b .tree) .1) }
+    record { height = h; items = cutRow e len h 0 (leftmost (b .height) (b .height - h) (b .tree) .1) }
 
 unfoldable pub shorterHeld : Edition → Blob → (len : ℕ) → ℕ → Held
 shorterHeld e b len s = pick (eqb s (rootOf b)) (just (shorterRoot e b len)) (heldBy (shortened e len) (sited (sitesOf b) s))

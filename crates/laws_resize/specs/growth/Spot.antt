@@ -36,7 +36,7 @@ module _ (fan : ℕ) where
 
 -- what a block of the right edge holds when it is filled: its children, and new ones
 unfoldable pub edgeCell : (fan : ℕ) → (lens free : List ℕ) → (h : ℕ) → Tree h → Cell
-edgeCell fan lens free zero t = record { height = 0; row = t .1 }
+edgeCell fan lens free zero t = record { height = 0; items = t .1 }
 edgeCell fan lens free (suc h) t =
     let new = newRow fan (length lens) (sizes lens) free (fan - length (t .1)) h (ofEnd 0 (roomOf fan h) (t .1)) (ofEnd 0 (spaceOf fan h) (t .1)) in
-    record { height = suc h; row = map (slotOf h) (t .1) ++ new }
+    record { height = suc h; items = map (slotOf h) (t .1) ++ new }

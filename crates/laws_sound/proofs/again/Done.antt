@@ -11,7 +11,7 @@ use Rattle.meaning.specs.declared.Edition.{Edition}
 use Rattle.meaning.specs.Lists.{pick}
 use Rattle.meaning.specs.Edition.{Proper}
 use Rattle.meaning.specs.Bytes.{Cell, state, recorded, lastVersion}
-use Rattle.meaning.specs.Shape.{least, most, ShapedTree, Shaped}
+use Rattle.meaning.specs.Shape.{leastCount, mostCount, ShapedTree, Shaped}
 use Rattle.meaning.specs.Tree.{Blob, cells, rootOf, slotOf, cellsOf, slotsOf}
 use Rattle.meaning.specs.Change.{Change, Store, changedBy}
 use Rattle.meaning.specs.Resize.{lowest}
@@ -83,7 +83,7 @@ empty-slots s = refl
 
 -- its shape
 empty-shaped : (e : Edition) (s : ℕ) → Shaped e (emptyBlob s)
-unfolding Shaped ShapedTree least pick emptyBlob
+unfolding Shaped ShapedTree leastCount pick emptyBlob
 empty-shaped e s = (omega arith, omega arith)
 
 -- an empty blob in a usable slot

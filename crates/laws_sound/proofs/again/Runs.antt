@@ -213,7 +213,7 @@ audit-noted (refuses r) book = refl
 audit-noted (yields vs) book = refl
 
 -- length
-length-noted : (r : ℕ) (said : Said) (book : List (ℕ × ℕ)) → noted (run.length r) said book ≡ book
+length-noted : (r : ℕ) (said : Said) (book : List (ℕ × ℕ)) → noted (run.tellLength r) said book ≡ book
 unfolding noted
 length-noted r (refuses q) book = refl
 length-noted r (yields vs) book = refl
@@ -240,7 +240,7 @@ call-booked e p S book k (run.resize r len) = resize-booked e S book k p r len (
 call-booked e p S book k (run.delete r) = delete-booked e S book k p r (deleteCall e (S .pool) (S .records) r) refl
 call-booked e p S book k run.audit =
     rw audit-noted (quiet-booked e S book k _ (quiet-after e S (auditCall e (S .pool) (S .records)) (audit-quiet e (S .pool) (S .records))))
-call-booked e p S book k (run.length r) =
+call-booked e p S book k (run.tellLength r) =
     rw length-noted (quiet-booked e S book k _ (quiet-after e S (lengthCall e (S .pool) (S .records) r) (length-quiet e (S .pool) (S .records) r)))
 call-booked e p S book k (run.read r offset size) =
     rw read-noted (quiet-booked e S book k _

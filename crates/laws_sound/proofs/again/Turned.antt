@@ -11,7 +11,7 @@ use Rattle.meaning.specs.declared.Edition.{Edition}
 use Rattle.meaning.specs.Lists.{pasted, padded}
 use Rattle.meaning.specs.Edition.{Proper}
 use Rattle.meaning.specs.Bytes.{recorded, lastVersion}
-use Rattle.meaning.specs.Shape.{most, leavesFor, total}
+use Rattle.meaning.specs.Shape.{mostCount, leavesFor, total}
 use Rattle.meaning.specs.Tree.{Blob, rootOf, contentOf, cellsOf, slotsOf, lengthOf}
 use Rattle.meaning.specs.Change.{Change, Store, changedBy}
 use Rattle.meaning.specs.Resize.{refilled, resized}
@@ -130,7 +130,7 @@ write-done e p S r offset d {cs} h =
 resized-turns : (e : Edition) → Proper e → (N : ℕ) (P R : List ℕ) (b : Blob) (len : ℕ) → N ≤ e .most → Lies e N P R b
     → ((s : ℕ) → times s (slotsOf b) ≤ 1)
     → newBlocks e N P R len b ≤ length (usable e N P R) → Turns e N R b (resized e len (usable e N P R) b)
-resized-turns e p N P R b len most lay once enough =
+resized-turns e p N P R b len mostCount lay once enough =
     let free = usable e N P R in
     let b′ = resized e len free b in
     let from : (s : ℕ) → times s (slotsOf b′) ≤ times s (slotsOf b) + times s free = λ s.

@@ -82,8 +82,8 @@ held-own (c ∷ cs) once =
 pub same-cell : (a b : Cell) → sameCell a b ≡ true → a ≡ b
 unfolding sameCell
 same-cell a b h =
-    let k = both-true (eqb (a .height) (b .height)) (sameList (a .row) (b .row)) h in
-    ap₂ (λ (h : ℕ) (r : List ℕ). record { height = h; row = r }) (eqb-true (a .height) (b .height) (k .0)) (same-list (a .row) (b .row) (k .1))
+    let k = both-true (eqb (a .height) (b .height)) (sameList (a .items) (b .items)) h in
+    ap₂ (λ (h : ℕ) (r : List ℕ). record { height = h; items = r }) (eqb-true (a .height) (b .height) (k .0)) (same-list (a .items) (b .items) (k .1))
 
 -- a written record of a free slot keeps its layout, whatever its version
 pub free-sound : (v : ℕ) → soundRecord (recordOf 0 v) ≡ true

@@ -38,8 +38,8 @@ pub record Lies (e : Edition) (N : ℕ) (P R : List ℕ) (b : Blob) : Type 0 whe
 -- a tree's first cell is its own
 pub cells-own : (Q : ℕ × Cell → Type 0) (h : ℕ) (t : Tree h) → Every Q (cells h t) → (c : Cell) × (c .height ≡ h) × Q (slotOf h t, c)
 unfolding cells slotOf
-cells-own Q zero t q = (record { height = 0; row = t .1 }, refl, q .0)
-cells-own Q (suc h) t q = (record { height = suc h; row = map (slotOf h) (t .1) }, refl, q .0)
+cells-own Q zero t q = (record { height = 0; items = t .1 }, refl, q .0)
+cells-own Q (suc h) t q = (record { height = suc h; items = map (slotOf h) (t .1) }, refl, q .0)
 
 module _ (e : Edition) (N : ℕ) (P R : List ℕ) where
   -- a blob that lies in the pool is found from its root
@@ -97,7 +97,7 @@ pub blob-fits : (e : Edition) (N : ℕ) → N ≤ 2 ^ 32 → (b : Blob) → Shap
 blob-fits e N few b shape low =
     every-member (cellsOf b) (λ c m. record {
       count = cell-most b c m e shape;
-      small = λ inner. row-small N few (c .1 .row) (λ x k. low x (member-times x (cell-children b c m inner x k)));
+      small = λ inner. row-small N few (c .1 .items) (λ x k. low x (member-times x (cell-children b c m inner x k)));
     })
 
 -- so a blob of the right shape, each of whose cells is written at its slot, with the right records, lies in the pool

@@ -9,8 +9,8 @@ use lib.ListN.{length, getD, take, drop}
 use Rattle.meaning.specs.declared.Edition.{Edition}
 use Rattle.meaning.specs.Lists.{joined, sameList, zeros}
 use Rattle.meaning.specs.Edition.{Proper}
-use Rattle.meaning.specs.Bytes.{Cell, rowBytes, encoded, block, heightOf, countOf, ownSlot, versionOf, recorded}
-use Rattle.meaning.specs.Shape.{least, most}
+use Rattle.meaning.specs.Bytes.{Cell, itemBytes, encoded, block, heightOf, countOf, ownSlot, versionOf, recorded}
+use Rattle.meaning.specs.Shape.{leastCount, mostCount}
 use Rattle.meaning.specs.Tree.{Tree, slotOf, cells}
 use Rattle.meaning.specs.Walk.{used}
 use Rattle.laws.proofs.Inversions.{Sound, same-self}
@@ -105,19 +105,19 @@ pub record Reads (e : Edition) (N : ℕ) (P R : List ℕ) (c : ℕ × Cell) : Ty
   pub own : ownSlot (block e P (c .0)) ≡ c .0
   pub version : versionOf (block e P (c .0)) ≡ recorded R (c .0)
   pub height : heightOf (block e P (c .0)) ≡ c .1 .height
-  pub count : countOf (block e P (c .0)) ≡ length (c .1 .row)
+  pub count : countOf (block e P (c .0)) ≡ length (c .1 .items)
   pub rest : zeros (drop (16 + used (c .1 .height) (countOf (block e P (c .0)))) (take (16 + e .leaf) (block e P (c .0)))) ≡ true
   pub cell : cellOf (c .1 .height) (block e P (c .0)) ≡ c .1
 
 -- the row that is read is the cell's
-pub reads-row : (e : Edition) (N : ℕ) (P R : List ℕ) (s h : ℕ) (r : List ℕ) → Reads e N P R (s, record { height = h; row = r })
+pub reads-row : (e : Edition) (N : ℕ) (P R : List ℕ) (s h : ℕ) (r : List ℕ) → Reads e N P R (s, record { height = h; items = r })
     → rowOf h (block e P s) ≡ r
 unfolding cellOf
-reads-row e N P R s h r f = ap (λ (c : Cell). c .row) (f .cell)
+reads-row e N P R s h r f = ap (λ (c : Cell). c .items) (f .cell)
 
 -- a block that reads as a cell passes checks 2 and 3 where the cell's count is in its range
-pub reads-sound : (e : Edition) (N : ℕ) (P R : List ℕ) (s h : ℕ) (r : List ℕ) (root edge : Bool) → Reads e N P R (s, record { height = h; row = r })
-    → least e h edge root ≤ length r → length r ≤ most e h → Sound e h root edge (recorded R s) s (block e P s)
+pub reads-sound : (e : Edition) (N : ℕ) (P R : List ℕ) (s h : ℕ) (r : List ℕ) (root edge : Bool) → Reads e N P R (s, record { height = h; items = r })
+    → leastCount e h edge root ≤ length r → length r ≤ mostCount e h → Sound e h root edge (recorded R s) s (block e P s)
 reads-sound e N P R s h r root edge f lo hi = record {
   mark = f .mark;
   own = f .own;
@@ -136,12 +136,12 @@ pub record Written (e : Edition) (N : ℕ) (P R : List ℕ) (c : ℕ × Cell) : 
 
 -- a cell that a block has room for: its count is in the range, and its children are slot numbers
 pub record Fits (e : Edition) (c : Cell) : Type 0 where
-  pub count : length (c .row) ≤ most e (c .height)
-  pub small : (c .height ≡ 0 → ⊥) → (i : ℕ) → getD (c .row) i 0 < 2 ^ 32
+  pub count : length (c .items) ≤ mostCount e (c .height)
+  pub small : (c .height ≡ 0 → ⊥) → (i : ℕ) → getD (c .items) i 0 < 2 ^ 32
 
 -- then its bytes fit the payload
-pub fits-payload : (e : Edition) → Proper e → (c : Cell) → Fits e c → length (rowBytes (c .height) (c .row)) ≤ e .leaf
-fits-payload e p c f = rw (row-length (c .height) (c .row)) (used-fits e p (c .height) (length (c .row)) (f .count))
+pub fits-payload : (e : Edition) → Proper e → (c : Cell) → Fits e c → length (itemBytes (c .height) (c .items)) ≤ e .leaf
+fits-payload e p c f = rw (row-length (c .height) (c .items)) (used-fits e p (c .height) (length (c .items)) (f .count))
 
 -- a written cell is read back
 pub written-reads : (e : Edition) → Proper e → (N : ℕ) (P R : List ℕ) → N ≤ 2 ^ 32 → (c : ℕ × Cell) → Fits e (c .1) → Written e N P R c

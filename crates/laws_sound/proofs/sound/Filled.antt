@@ -10,7 +10,7 @@ use Rattle.meaning.specs.declared.Edition.{Edition}
 use Rattle.meaning.specs.Lists.{joined, part}
 use Rattle.meaning.specs.Edition.{Proper}
 use Rattle.meaning.specs.Bytes.{Cell, encoded, block, versionOf, recorded}
-use Rattle.meaning.specs.Shape.{least, most, InRow, ShapedTree, Shaped}
+use Rattle.meaning.specs.Shape.{leastCount, mostCount, InRow, ShapedTree, Shaped}
 use Rattle.meaning.specs.Tree.{Tree, Blob, slotOf, cells, cellsOf}
 use Rattle.laws.proofs.Numbers.{part-length, number-small}
 use Rattle.laws.proofs.Checks.{least-leaf-root, least-inner-edge}
@@ -24,7 +24,7 @@ use Rattle.laws_sound.proofs.sound.Blobs.{Lies, lies-within, blob-fits}
 
 -- an inner cell that has a child
 abbrev Some : ℕ × Cell → Type 0
-Some c = (c .1 .height ≡ 0 → ⊥) → 1 ≤ length (c .1 .row)
+Some c = (c .1 .height ≡ 0 → ⊥) → 1 ≤ length (c .1 .items)
 
 module _ (e : Edition) (two : 2 ≤ e .fan) where
   -- a row's inner cells have a child, if each tree's have
@@ -47,22 +47,22 @@ module _ (e : Edition) (two : 2 ≤ e .fan) where
 module _ (e : Edition) (p : Proper e) (fills : e .size ≡ 16 + e .leaf) (N : ℕ) (P R : List ℕ) (whole : length P ≡ e .size * N)
     (bytes : (i : ℕ) → getD P i 0 < 256) where
   -- a block that reads as a cell is that cell's, by the cell's height
-  block-is : (s h : ℕ) (r : List ℕ) → Reads e N P R (s, record { height = h; row = r }) → length r ≤ most e h → ((h ≡ 0 → ⊥) → 1 ≤ length r)
-      → block e P s ≡ encoded e (record { height = h; row = r }) s (recorded R s)
+  block-is : (s h : ℕ) (r : List ℕ) → Reads e N P R (s, record { height = h; items = r }) → length r ≤ mostCount e h → ((h ≡ 0 → ⊥) → 1 ≤ length r)
+      → block e P s ≡ encoded e (record { height = h; items = r }) s (recorded R s)
   unfolding block
   block-is s h r f high some = by h refl
     where
       b : List ℕ
       b = part (e .size * s) (e .size) P
 
-      from : (root : Bool) → least e h true root ≤ length r → b ≡ encoded e (record { height = h; row = r }) s (recorded R s)
+      from : (root : Bool) → leastCount e h true root ≤ length r → b ≡ encoded e (record { height = h; items = r }) s (recorded R s)
       from root low =
           passed-encoded e p fills h root true (recorded R s) s b (block-length e p N P whole s (f .within))
           (part-small (e .size * s) (e .size) P bytes)
           (sound-passed e h root true (recorded R s) s b (reads-sound e N P R s h r root true f low high))
           ∙ ap (λ (c : Cell). encoded e c s (recorded R s)) (f .cell)
 
-      by : (g : ℕ) → h ≡ g → b ≡ encoded e (record { height = h; row = r }) s (recorded R s)
+      by : (g : ℕ) → h ≡ g → b ≡ encoded e (record { height = h; items = r }) s (recorded R s)
       by zero q = from true (omega (arith, least-leaf-root e true true h q refl refl))
       by (suc g) q =
           let inner : h ≡ 0 → ⊥ = λ z. absurd (omega arith) in
@@ -86,5 +86,5 @@ module _ (e : Edition) (p : Proper e) (fills : e .size ≡ 16 + e .leaf) (N : �
       every-both {Q = λ c. Fits e (c .1) × Some c} (cellsOf b) (λ c f r. record {
         within = r .within;
         young = version-young c r;
-        bytes = block-is (c .0) (c .1 .height) (c .1 .row) r (f .0 .count) (f .1);
+        bytes = block-is (c .0) (c .1 .height) (c .1 .items) r (f .0 .count) (f .1);
       }) (every-both (cellsOf b) (λ c f s. (f, s)) fits some) (l .reads)

@@ -15,8 +15,8 @@ use Rattle.meaning.specs.Lists.{both, joined}
 use Rattle.meaning.specs.Edition.{Proper}
 use Rattle.meaning.specs.Bytes.{Cell, block, childrenOf, state, recorded}
 use Rattle.meaning.specs.Tree.{Tree, slotOf, cells}
-use Rattle.meaning.specs.Shape.{most, InRow, ShapedTree}
-use Rattle.meaning.specs.Walk.{isRoot, linkCheck, Found, fine, isEmpty, row, visit}
+use Rattle.meaning.specs.Shape.{mostCount, InRow, ShapedTree}
+use Rattle.meaning.specs.Walk.{isRoot, linkCheck, Found, fine, isEmpty, visitRow, visit}
 use Rattle.laws.proofs.Codec.{rowOf, cellOf, row-count}
 use Rattle.laws.proofs.Inversions.{sound-passed, passed-linked, linked-passed, visited-fine, fine-andThen}
 use Rattle.laws.proofs.Roots.{visit-slot}
@@ -61,8 +61,8 @@ module _ (e : Edition) (N : ℕ) (P R : List ℕ) where
   -- a row of trees that lies in the pool is found as it is, if each tree is
   rows-found-so : (h : ℕ) → Finds h → (q : ℕ) (edge : Bool) (seen : List ℕ) (ts : List (Tree h)) → InRow (ShapedTree e h false) edge ts
       → Every (Reads e N P R) (joined (map (cells h) ts)) → Parts R (rowSlots h ts) → Clear seen (rowSlots h ts)
-      → row e N P R (visit e N P R h) q edge (map (slotOf h) ts) seen ≡ fine ts (marked seen (rowSlots h ts))
-  unfolding row joined isRoot Finds
+      → visitRow e N P R (visit e N P R h) q edge (map (slotOf h) ts) seen ≡ fine ts (marked seen (rowSlots h ts))
+  unfolding visitRow joined isRoot Finds
   rows-found-so h each q edge seen [] shape reads parts clear = rw (row-none h, marked-none)
   rows-found-so h each q edge seen (t ∷ ts) shape reads parts clear =
       let s = row-uncons (ShapedTree e h false) (slotOf h) edge t ts shape in
@@ -111,7 +111,7 @@ module _ (e : Edition) (N : ℕ) (P R : List ℕ) where
       (clear-rest seen s (rowSlots h (t .1)) clear′) in
       fine-andThen _ _ (block e P s) (set seen s 1) (visited-fine e N P R (suc h) role edge seen s link check)
       ∙ fine-andThen _ _ (t .1) (marked (set seen s 1) (rowSlots h (t .1)))
-      (ap (λ (l : List ℕ). row e N P R (visit e N P R h) s edge l (set seen s 1)) (reads-row e N P R s (suc h) cs (reads .0)) ∙ below)
+      (ap (λ (l : List ℕ). visitRow e N P R (visit e N P R h) s edge l (set seen s 1)) (reads-row e N P R s (suc h) cs (reads .0)) ∙ below)
       ∙ ap (fine (s, t .1)) (sym (ap (marked seen) all ∙ marked-cons seen s (rowSlots h (t .1))))
 
 -- what a visit that went well found: cells that lie at their slots, parts below the first, no slot twice, the flags of its slots
@@ -155,7 +155,7 @@ module _ (e : Edition) (p : Proper e) (N : ℕ) (P R : List ℕ) (whole : length
 
   -- a row's visit tells it of all its trees, if each child's does of its own
   rows-read : (h : ℕ) → Tells h → (q : ℕ) (edge : Bool) (cs seen : List ℕ) (ts : List (Tree h)) (seen′ : List ℕ) → length seen ≡ N → Flags seen
-      → row e N P R (visit e N P R h) q edge cs seen ≡ fine ts seen′ → RowRead e N P R h seen cs ts seen′
+      → visitRow e N P R (visit e N P R h) q edge cs seen ≡ fine ts seen′ → RowRead e N P R h seen cs ts seen′
   unfolding joined Tells
   rows-read h each q edge [] seen ts seen′ all flags v =
       let n = none-found e N P R h q edge seen v in
@@ -232,7 +232,7 @@ module _ (e : Edition) (p : Proper e) (N : ℕ) (P R : List ℕ) (whole : length
             height = f .sound .height;
             count = sym (ap length (r .own) ∙ n);
             rest = f .sound .rest;
-            cell = ap (λ (l : List ℕ). record { height = suc h; row = l }) (sym (r .own));
+            cell = ap (λ (l : List ℕ). record { height = suc h; items = l }) (sym (r .own));
           },
           r .reads,
         );

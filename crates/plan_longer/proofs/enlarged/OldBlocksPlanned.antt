@@ -10,7 +10,7 @@ use Rattle.meaning.specs.declared.Edition.{Edition}
 use Rattle.meaning.specs.Edition.{Proper}
 use Rattle.meaning.specs.Lists.{pick, both}
 use Rattle.meaning.specs.Bytes.{Cell, block, heightOf, countOf}
-use Rattle.meaning.specs.Shape.{most}
+use Rattle.meaning.specs.Shape.{mostCount}
 use Rattle.meaning.specs.Resize.{share}
 use Rattle.laws.proofs.Codec.{rowOf, padded-length}
 use Rattle.laws.proofs.Inversions.{both-true}
@@ -44,7 +44,7 @@ unfolding rootEnd
 redrawn-root e p g t free kept d x draws u eu = redrawn e p _ d x draws kept u eu
 
 pub redrawn-old : (e : Edition) → Proper e → (g : Growth) (P free hs fs : List ℕ) (i : ℕ) (b : List ℕ) → b ≡ block e P i → (d : Drawn) (x : List ℕ)
-    → Draws e (record { height = getD hs i 0 - 1; row = grownRow e (g .length) (g .leaves) free (getD hs i 0 - 1) (getD fs i 0) (rowOf (getD hs i 0 - 1) b) }) d x
+    → Draws e (record { height = getD hs i 0 - 1; items = grownRow e (g .length) (g .leaves) free (getD hs i 0 - 1) (getD fs i 0) (rowOf (getD hs i 0 - 1) b) }) d x
     → (u : Turn) → u ≡ pick (both (eqb (d .height) (heightOf b)) (eqb (d .count) (countOf b))) Stays (Renews (d .height) (d .count))
     → Redraws e (block e P i) (oldEnd e g P free hs fs i) u x
 unfolding oldEnd
@@ -69,7 +69,7 @@ module _ (e : Edition) (long : ℕ) (b : List ℕ) (h first : ℕ) where
 
 -- a leaf with all its bytes stays: its height and count do
 settled-stays : (e : Edition) (g : Growth) (free b : List ℕ) (h first : ℕ) → both (eqb h 0) (both (eqb (heightOf b) 0) (eqb (countOf b) (share e (g .length) first))) ≡ true
-    → (R : List ℕ) (s : ℕ) → renewal e R s b (record { height = h; row = grownRow e (g .length) (g .leaves) free h first (rowOf h b) }) ≡ []
+    → (R : List ℕ) (s : ℕ) → renewal e R s b (record { height = h; items = grownRow e (g .length) (g .leaves) free h first (rowOf h b) }) ≡ []
 unfolding renewal grownRow pick both
 settled-stays e g free b h first t R s =
     let u = both-true (eqb h 0) (both (eqb (heightOf b) 0) (eqb (countOf b) (share e (g .length) first))) t in
@@ -91,7 +91,7 @@ redrawn-settled e g P free hs fs i b eb t et q x = rw (← eb) (record {
 -- a block of the blob, by where it stands
 module _ (e : Edition) (g : Growth) (P hs fs : List ℕ) (i : ℕ) (spot : Spot e g P hs fs i) (some : 1 ≤ getD hs i 0) (b : List ℕ)
     (eb : b ≡ block e P i) where
-  pub old-most : countOf b ≤ most e (getD hs i 0 - 1)
+  pub old-most : countOf b ≤ mostCount e (getD hs i 0 - 1)
   old-most = rw eb (spot .most some)
 
   pub old-share : getD hs i 0 - 1 ≡ 0 → countOf b ≤ share e (g .length) (getD fs i 0)

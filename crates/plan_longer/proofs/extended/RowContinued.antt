@@ -37,7 +37,7 @@ module _ (e : Edition) (p : Proper e) where
   -- an old leaf, filled with zeros
   pub grown-leaf : (long first : ℕ) (b x₀ x : List ℕ) (r count : ℕ) → length x₀ ≡ e .leaf → length b ≡ e .size → countOf b ≤ share e long first
       → r ≡ share e long first → r ≤ e .leaf → count ≡ countOf b → x ≡ padded (length x₀) (part 16 count b)
-      → Draws e (record { height = 0; row = padded (share e long first) (dataOf b) }) (record { height = 0; count = r }) x
+      → Draws e (record { height = 0; items = padded (share e long first) (dataOf b) }) (record { height = 0; count = r }) x
   unfolding dataOf
   grown-leaf long first b x₀ x r count len whole kept many fits is drawn =
       let n : length (part 16 (countOf b) b) ≡ countOf b = part-length 16 (countOf b) b (omega (arith, p .fits)) in
@@ -51,7 +51,7 @@ module _ (e : Edition) (p : Proper e) where
       → m ≡ leavesFor (e .leaf) len - n → count ≡ countOf b → x₁ ≡ padded (length x₀) (part 16 (4 * count) b) → OfBytes b
       → c ≡ places (e .fan) m (e .fan - count) h (room (e .fan) h n) → c ≤ e .fan - count
       → x ≡ pasted (4 * count) (joined (map (bytes 4) (every free (bulk (e .fan) h) c (space (e .fan) h n)))) x₁
-      → Draws e (record { height = suc h; row = grownRow e len n free (suc h) 0 (childrenOf b) }) (record { height = h + 1; count = count + c }) x
+      → Draws e (record { height = suc h; items = grownRow e len n free (suc h) 0 (childrenOf b) }) (record { height = h + 1; count = count + c }) x
   unfolding grownRow newRow newLeaves
   grown-inner len n m free b x₀ x₁ x h count c long whole full more is old small many fits drawn =
       let new = every free (bulk (e .fan) h) c (space (e .fan) h n) in
@@ -68,15 +68,15 @@ module _ (e : Edition) (p : Proper e) where
 
   -- the two, by height
   pub grown-lowest : (len n : ℕ) (free b x : List ℕ) (h first : ℕ) (d : Drawn) → h ≡ 0
-      → Draws e (record { height = 0; row = padded (share e len first) (dataOf b) }) d x
-      → Draws e (record { height = h; row = grownRow e len n free h first (rowOf h b) }) d x
+      → Draws e (record { height = 0; items = padded (share e len first) (dataOf b) }) d x
+      → Draws e (record { height = h; items = grownRow e len n free h first (rowOf h b) }) d x
   unfolding grownRow rowOf
   grown-lowest len n free b x zero first d low is = is
   grown-lowest len n free b x (suc h) first d low is = absurd (omega arith)
 
   pub grown-higher : (len n : ℕ) (free b x : List ℕ) (h first : ℕ) (d : Drawn) → (h ≡ 0 → ⊥)
-      → Draws e (record { height = suc (h - 1); row = grownRow e len n free (suc (h - 1)) 0 (childrenOf b) }) d x
-      → Draws e (record { height = h; row = grownRow e len n free h first (rowOf h b) }) d x
+      → Draws e (record { height = suc (h - 1); items = grownRow e len n free (suc (h - 1)) 0 (childrenOf b) }) d x
+      → Draws e (record { height = h; items = grownRow e len n free h first (rowOf h b) }) d x
   unfolding grownRow rowOf
   grown-higher len n free b x zero first d tall is = absurd (tall refl)
   grown-higher len n free b x (suc h) first d tall is = let z : suc h - 1 ≡ h = omega arith in rw z at is

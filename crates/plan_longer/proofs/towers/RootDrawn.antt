@@ -37,7 +37,7 @@ rootAt e g t free row = topAt e (g .length) (g .leaves) (t .blocks) free (t .hei
 
 -- at its old height the root has its own row, filled
 pub root-own : (e : Edition) (g : Growth) (t : Tower) (free kept : List ℕ) (level : ℕ) (d : Drawn) (x : List ℕ) → level ≡ t .height
-    → Draws e (record { height = level; row = grownRow e (g .length) (g .leaves) free level 0 (rowOf level kept) }) d x
+    → Draws e (record { height = level; items = grownRow e (g .length) (g .leaves) free level 0 (rowOf level kept) }) d x
     → Draws e (topAt e (g .length) (g .leaves) (t .blocks) free (t .height) (rowOf (t .height) kept) level) d x
 unfolding topCell
 root-own e g t free kept level d x is draws =

@@ -9,7 +9,7 @@ use native.Mathlib.Omega.{arith}
 use Rattle.meaning.specs.declared.Edition.{Edition}
 use Rattle.meaning.specs.Edition.{Proper}
 use Rattle.meaning.specs.Bytes.{countOf}
-use Rattle.meaning.specs.Shape.{leavesFor, most}
+use Rattle.meaning.specs.Shape.{leavesFor, mostCount}
 use Rattle.meaning.specs.Resize.{share}
 use Rattle.laws_resize.specs.growth.Forms.{bulk}
 use Rattle.laws_resize.proofs.growth.Steps.{bulk-rises}
@@ -96,7 +96,7 @@ module _ (e : Edition) (g : Growth) (t : Tower) (proper : Proper e) (grows : Gro
 
 -- the root's block is as full as it may be, at its old height
 module _ (e : Edition) (g : Growth) (t : Tower) (kept : List ℕ) (level : ℕ) (block : RootBlock e g t kept) (is : level ≡ t .height) where
-  pub own-most : countOf kept ≤ most e level
+  pub own-most : countOf kept ≤ mostCount e level
   own-most = rw is (block .most)
 
   pub own-share : level ≡ 0 → countOf kept ≤ share e (g .length) 0

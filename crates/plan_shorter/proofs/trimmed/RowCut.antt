@@ -23,7 +23,7 @@ module _ (e : Edition) (p : Proper e) where
   -- an old leaf, cut
   pub cut-leaf : (short first : ℕ) (b x₀ x : List ℕ) (count s kept : ℕ) → length x₀ ≡ e .leaf → length b ≡ e .size → countOf b ≤ e .leaf
       → count ≡ countOf b → s ≡ share e short first → kept ≡ min count s → x ≡ padded (length x₀) (part 16 kept b)
-      → Draws e (record { height = 0; row = cutRow e short 0 first (dataOf b) }) (record { height = 0; count = kept }) x
+      → Draws e (record { height = 0; items = cutRow e short 0 first (dataOf b) }) (record { height = 0; count = kept }) x
   unfolding cutRow share
   cut-leaf short first b x₀ x count s kept len whole full is some less drawn =
       let k : kept ≡ min (countOf b) (short - e .leaf * first) = omega arith in
@@ -36,7 +36,7 @@ module _ (e : Edition) (p : Proper e) where
   -- an old inner block, cut
   pub cut-inner : (leaves first h : ℕ) (b x₀ x : List ℕ) (count c : ℕ) → length x₀ ≡ e .leaf → length b ≡ e .size → countOf b ≤ e .fan
       → count ≡ countOf b → c ≡ places (e .fan) leaves count h first → x ≡ padded (length x₀) (part 16 (4 * c) b) → OfBytes b
-      → Draws e (record { height = suc h; row = take (up (leaves - first) (e .fan ^ h)) (childrenOf b) }) (record { height = h + 1; count = c }) x
+      → Draws e (record { height = suc h; items = take (up (leaves - first) (e .fan ^ h)) (childrenOf b) }) (record { height = h + 1; count = c }) x
   unfolding places
   cut-inner leaves first h b x₀ x count c long whole full is many drawn small =
       let u : ℕ = up (leaves - first) (e .fan ^ h) in
@@ -49,15 +49,15 @@ module _ (e : Edition) (p : Proper e) where
 
   -- the two, by height
   pub cut-lowest : (short : ℕ) (b x : List ℕ) (h first : ℕ) (d : Drawn) → h ≡ 0
-      → Draws e (record { height = 0; row = cutRow e short 0 first (dataOf b) }) d x
-      → Draws e (record { height = h; row = cutRow e short h first (rowOf h b) }) d x
+      → Draws e (record { height = 0; items = cutRow e short 0 first (dataOf b) }) d x
+      → Draws e (record { height = h; items = cutRow e short h first (rowOf h b) }) d x
   unfolding cutRow rowOf
   cut-lowest short b x zero first d low is = is
   cut-lowest short b x (suc h) first d low is = absurd (omega arith)
 
   pub cut-higher : (short leaves : ℕ) (b x : List ℕ) (h first : ℕ) (d : Drawn) → (h ≡ 0 → ⊥) → leaves ≡ leavesFor (e .leaf) short
-      → Draws e (record { height = suc (h - 1); row = take (up (leaves - first) (e .fan ^ (h - 1))) (childrenOf b) }) d x
-      → Draws e (record { height = h; row = cutRow e short h first (rowOf h b) }) d x
+      → Draws e (record { height = suc (h - 1); items = take (up (leaves - first) (e .fan ^ (h - 1))) (childrenOf b) }) d x
+      → Draws e (record { height = h; items = cutRow e short h first (rowOf h b) }) d x
   unfolding cutRow rowOf
   cut-higher short leaves b x zero first d tall some is = absurd (tall refl)
   cut-higher short leaves b x (suc h) first d tall some is = let z : suc h - 1 ≡ h = omega arith in rw (z, some) at is

@@ -9,7 +9,7 @@ use lib.ListN.{length, take, drop, length-drop}
 use Rattle.meaning.specs.declared.Edition.{Edition}
 use Rattle.meaning.specs.Lists.{part, joined, bytes, number, padded, fours}
 use Rattle.meaning.specs.Edition.{Proper}
-use Rattle.meaning.specs.Bytes.{Cell, rowBytes, header, blockBytes, encoded, countOf, dataOf, childrenOf}
+use Rattle.meaning.specs.Bytes.{Cell, itemBytes, header, blockBytes, encoded, countOf, dataOf, childrenOf}
 use Rattle.meaning.specs.Walk.{used}
 use Rattle.laws.proofs.Numbers.{OfBytes}
 use Rattle.laws.proofs.Codec.{fours-length, padded-length, header-length, drop-small, fours-written, rowOf, row-count}
@@ -20,15 +20,15 @@ use Rattle.plan_slot.proofs.payload.Rows.{padded-twice}
 module _ (e : Edition) (p : Proper e) where
   -- a row of children, one higher than h
   pub drawn-inner : (h n : ℕ) (row x : List ℕ) → n ≡ length row → n ≤ e .fan → x ≡ padded (e .leaf) (joined (map (bytes 4) row))
-      → Draws e (record { height = suc h; row = row }) (record { height = h + 1; count = n }) x
-  unfolding rowBytes
+      → Draws e (record { height = suc h; items = row }) (record { height = h + 1; count = n }) x
+  unfolding itemBytes
   drawn-inner h n row x many fits is =
       record { height = add-one h; count = many; payload = is; fits = omega (arith, fours-length row, p .fills) }
 
   -- a leaf's bytes
   pub drawn-leaf : (n : ℕ) (row x : List ℕ) → n ≡ length row → n ≤ e .leaf → x ≡ padded (e .leaf) row
-      → Draws e (record { height = 0; row = row }) (record { height = 0; count = n }) x
-  unfolding rowBytes
+      → Draws e (record { height = 0; items = row }) (record { height = 0; count = n }) x
+  unfolding itemBytes
   drawn-leaf n row x many fits is = record { height = refl; count = many; payload = is; fits = omega arith }
 
 -- what is drawn is the cell's block, in any slot and at any version
@@ -38,12 +38,12 @@ unfolding encoded blockBytes
 draws-block e p c d x is s v =
     let n : length (header e (d .height) (d .count) s v) ≡ 16 = header-length e (d .height) (d .count) s v (p .marked) in
     ap (λ (l : List ℕ). padded (e .size) (header e (d .height) (d .count) s v ++ l)) (is .payload)
-    ∙ padded-twice (e .size) (e .leaf) (header e (d .height) (d .count) s v) (rowBytes (c .height) (c .row)) (is .fits) (omega (arith, p .fits))
-    ∙ (λ i. padded (e .size) (header e (is .height i) (is .count i) s v ++ rowBytes (c .height) (c .row)))
+    ∙ padded-twice (e .size) (e .leaf) (header e (d .height) (d .count) s v) (itemBytes (c .height) (c .items)) (is .fits) (omega (arith, p .fits))
+    ∙ (λ i. padded (e .size) (header e (is .height i) (is .count i) s v ++ itemBytes (c .height) (c .items)))
 
 -- its payload is as long as a leaf's
 pub draws-length : (e : Edition) (c : Cell) (d : Drawn) (x : List ℕ) → Draws e c d x → length x ≡ e .leaf
-draws-length e c d x is = ap length (is .payload) ∙ padded-length (e .leaf) (rowBytes (c .height) (c .row))
+draws-length e c d x is = ap length (is .payload) ∙ padded-length (e .leaf) (itemBytes (c .height) (c .items))
 
 -- the first n of k numbers of four bytes each
 take-fours : (n k : ℕ) (l : List ℕ) → take n (fours k l) ≡ fours (min k n) l

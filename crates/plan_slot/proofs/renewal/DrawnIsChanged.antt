@@ -55,7 +55,7 @@ module _ (e : Edition) (p : Proper e) (c : Cell) (d : Drawn) (x : List ℕ) (dra
 
 -- if two cells are the same exactly if height and count are, that is the definitions' change
 pub renewal-same : (e : Edition) (R : List ℕ) (s : ℕ) (b : List ℕ) (old new : Cell)
-    → sameCell old new ≡ both (eqb (new .height) (heightOf b)) (eqb (length (new .row)) (countOf b))
+    → sameCell old new ≡ both (eqb (new .height) (heightOf b)) (eqb (length (new .items)) (countOf b))
     → renewal e R s b new ≡ pick (sameCell old new) [] (renewed e R (state R s) s new ∷ [])
 unfolding renewal
 renewal-same e R s b old new same = rw same

@@ -9,7 +9,7 @@ use lib.Seq.{take-append-le, drop-append-le, take-append-add, drop-append-add}
 use Rattle.meaning.specs.declared.Edition.{Edition}
 use Rattle.meaning.specs.Lists.{pasted, bytes}
 use Rattle.meaning.specs.Edition.{Proper}
-use Rattle.meaning.specs.Bytes.{rowBytes, header, encoded, dataOf}
+use Rattle.meaning.specs.Bytes.{itemBytes, header, encoded, dataOf}
 use Rattle.laws.proofs.Numbers.{OfBytes}
 use Rattle.laws.proofs.Parts.{pasted-length}
 use Rattle.laws.proofs.Codec.{encoded-bytes, header-length, passed-encoded, cellOf, rowOf}
@@ -42,7 +42,7 @@ module _ (e : Edition) (p : Proper e) where
   -- a leaf's block: header, its bytes, zeros
   leaf-bytes : (row : List ℕ) (s v : ℕ) → length row ≤ e .leaf
       → encoded e (leafCell row) s v ≡ header e 0 (length row) s v ++ (row ++ replicate (e .size - (16 + length row)) 0)
-  unfolding rowBytes
+  unfolding itemBytes
   leaf-bytes row s v fits = encoded-bytes e p (leafCell row) s v fits
 
   -- the block of a leaf with another version and other bytes in its row

@@ -11,7 +11,7 @@ use Rattle.meaning.specs.declared.Edition.{Edition}
 use Rattle.meaning.specs.Lists.{pick, part, pasted, bytes}
 use Rattle.meaning.specs.Edition.{Proper}
 use Rattle.meaning.specs.Bytes.{block, countOf, dataOf, encoded, recordAt, recordOf, recordWith, stateOf, recordedOf, state, recorded, lastVersion}
-use Rattle.meaning.specs.Shape.{most}
+use Rattle.meaning.specs.Shape.{mostCount}
 use Rattle.meaning.specs.Change.{put, puts, renewed}
 use Rattle.laws.proofs.Numbers.{part-length}
 use Rattle.plan_write.specs.declared.stretch.Stretch.{Stretch}
@@ -70,7 +70,7 @@ module _ (e : Edition) (P R hs fs d : List ℕ) (offset i : ℕ) (t : Stretch) (
   -- its stretch is stored
   module _ (n : t .count ≡ 0 → ⊥) (f : ChosenAt e P hs d i t) (g : Writable e P R hs i) where
     pub store-room : Proper e → 16 + t .within + t .count ≤ e .size
-    unfolding most
+    unfolding mostCount
     store-room p = omega (arith, f .so n .1 .leaf, g .so (f .so n .0) .sound .most, p .fits)
 
     pub store-source : t .from + t .count ≤ length d
@@ -83,7 +83,7 @@ module _ (e : Edition) (P R hs fs d : List ℕ) (offset i : ℕ) (t : Stretch) (
     block-planned : Proper e → e .size ≡ 16 + e .leaf → e .size * i + e .size ≤ length P
         → pasted (16 + t .within) (part (t .from) (t .count) d) (pasted 8 (bytes 8 (recorded R i + 1)) (block e P i))
         ≡ encoded e (leafCell (stretched t d (dataOf (block e P i)))) i (recorded R i + 1)
-    unfolding stretched most
+    unfolding stretched mostCount
     block-planned p fills here =
         let b : List ℕ = block e P i in
         let c = f .so n .1 in
@@ -110,5 +110,5 @@ module _ (e : Edition) (P R hs fs d : List ℕ) (offset i : ℕ) (t : Stretch) (
 
 -- a leaf holds no more than a payload
 pub leaf-count : (e : Edition) (P R hs : List ℕ) (i : ℕ) → Writable e P R hs i → Counted e P hs i
-unfolding most
+unfolding mostCount
 leaf-count e P R hs i g = record { so = λ q. g .so q .sound .most }

@@ -12,7 +12,7 @@ use Rattle.meaning.specs.declared.Edition.{Edition}
 use Rattle.meaning.specs.Lists.{pick, part, pasted}
 use Rattle.meaning.specs.Edition.{Proper}
 use Rattle.meaning.specs.Bytes.{Cell, block, countOf, dataOf, recorded}
-use Rattle.meaning.specs.Shape.{least, most}
+use Rattle.meaning.specs.Shape.{leastCount, mostCount}
 use Rattle.meaning.specs.Tree.{Blob, contentOf, cellsOf, lengthOf, just, held}
 use Rattle.meaning.specs.Resize.{refilled}
 use Rattle.meaning.specs.Change.{changed}
@@ -73,7 +73,7 @@ module _ (e : Edition) (p : Proper e) (n : ℕ) (P R : List ℕ) (r len k : ℕ)
   -- a slot with 1 in the row of heights is a leaf
   module _ (s : ℕ) (leaf : getD hs s 0 ≡ 1) where
     abbrev site : Site
-    site = record { height = 0; first = getD fs s 0; row = dataOf (block e P s) }
+    site = record { height = 0; first = getD fs s 0; items = dataOf (block e P s) }
 
     here : sited (sitesOf b) s ≡ at site
     unfolding siteAt rowOf
@@ -83,7 +83,7 @@ module _ (e : Edition) (p : Proper e) (n : ℕ) (P R : List ℕ) (r len k : ℕ)
     within = g .fit s site here .0 .within
 
     not-full : countOf (block e P s) ≤ e .leaf
-    unfolding most
+    unfolding mostCount
     not-full = g .fit s site here .0 .most
 
     data-count : length (dataOf (block e P s)) ≡ countOf (block e P s)
@@ -96,7 +96,7 @@ module _ (e : Edition) (p : Proper e) (n : ℕ) (P R : List ℕ) (r len k : ℕ)
         omega (arith, not-full, p .fits)
 
     sound : Sound e 0 true true (recorded R s) s (block e P s)
-    unfolding least most pick
+    unfolding leastCount mostCount pick
     sound =
         reads-sound e n P R s 0 (dataOf (block e P s)) true true
         (every-held (Reads e n P R) (cellsOf b) (lies .reads) s (leafCell (dataOf (block e P s))) (held-at e p R b (g .standing) s site here))

@@ -42,24 +42,24 @@ refilled-own b =
 -- what a leaf's site holds is its part of the content, which reaches so far
 module _ (e : Edition) (p : Proper e) (N : ℕ) (P R : List ℕ) (b : Blob) (standing : Standing e R b) (s : ℕ) (x : Site) (here : sited (sitesOf b) s ≡ at x)
     (leaf : x .height ≡ 0) where
-  pub leaf-part : x .row ≡ part (e .leaf * x .first) (length (x .row)) (contentOf b)
+  pub leaf-part : x .items ≡ part (e .leaf * x .first) (length (x .items)) (contentOf b)
   unfolding writtenHeld heldBy written rewritten
   leaf-part =
-      let old : held (cellsOf b) s ≡ just (record { height = x .height; row = x .row }) = held-at e p R b standing s x here in
+      let old : held (cellsOf b) s ≡ just (record { height = x .height; items = x .items }) = held-at e p R b standing s x here in
       let new : held (cellsOf (refilled (contentOf b) b)) s
-      ≡ just (record { height = x .height; row = rewritten e (contentOf b) (x .height) (x .first) (x .row) }) =
+      ≡ just (record { height = x .height; items = rewritten e (contentOf b) (x .height) (x .first) (x .items) }) =
       write-slot e p N P R b standing (contentOf b) s ∙ rw here in
-      let same : just (record { height = x .height; row = x .row })
-      ≡ just (record { height = x .height; row = rewritten e (contentOf b) (x .height) (x .first) (x .row) }) =
+      let same : just (record { height = x .height; items = x .items })
+      ≡ just (record { height = x .height; items = rewritten e (contentOf b) (x .height) (x .first) (x .items) }) =
       sym old ∙ sym (ap (λ (c : Blob). held (cellsOf c) s) (refilled-own b)) ∙ new in
-      let rows : x .row ≡ rewritten e (contentOf b) (x .height) (x .first) (x .row) = cell-rows same in
-      rows ∙ ap (λ (h : ℕ). rewritten e (contentOf b) h (x .first) (x .row)) leaf
+      let rows : x .items ≡ rewritten e (contentOf b) (x .height) (x .first) (x .items) = cell-rows same in
+      rows ∙ ap (λ (h : ℕ). rewritten e (contentOf b) h (x .first) (x .items)) leaf
     where
-      cell-rows : {c d : Cell} → just c ≡ just d → c .row ≡ d .row
-      cell-rows {c} {d} q = let r : c ≡ d = cc in ap (λ (y : Cell). y .row) r
+      cell-rows : {c d : Cell} → just c ≡ just d → c .items ≡ d .items
+      cell-rows {c} {d} q = let r : c ≡ d = cc in ap (λ (y : Cell). y .items) r
 
-  pub leaf-reach : length (x .row) ≤ length (contentOf b) - e .leaf * x .first
+  pub leaf-reach : length (x .items) ≤ length (contentOf b) - e .leaf * x .first
   unfolding part
   leaf-reach =
-      let q : length (x .row) ≡ min (length (x .row)) (length (contentOf b) - e .leaf * x .first) = simp (length-take, length-drop) at (ap length leaf-part) in
+      let q : length (x .items) ≡ min (length (x .items)) (length (contentOf b) - e .leaf * x .first) = simp (length-take, length-drop) at (ap length leaf-part) in
       omega arith
