@@ -1,4 +1,4 @@
-//! Points the linker to the proved library, `libexport.a`.
+//! Points the linker to the proved library, `libtjornsaki.a`.
 
 use std::env;
 use std::path::PathBuf;
@@ -8,13 +8,13 @@ const OVERRIDE: &str = "TJORNSAKI_LIB";
 
 fn main() {
     let folder = library_folder();
-    let archive = folder.join("libexport.a");
+    let archive = folder.join("libtjornsaki.a");
     println!("cargo:rerun-if-env-changed={}", OVERRIDE);
     println!("cargo:rerun-if-changed={}", archive.display());
     if !archive.is_file() {
         eprintln!("{} is missing.", archive.display());
         eprintln!(
-            "`rt staticlib export` builds it in target/staticlib; host/build does so before it"
+            "`rt staticlib tjornsaki` builds it in target/staticlib; host/build does so before it"
         );
         eprintln!(
             "runs cargo. If it lies elsewhere, let {} name its folder by its whole path.",

@@ -18,7 +18,7 @@ pub const NO_SLOT: u64 = u64::MAX;
 /// The eight numbers that every C function leaves.
 pub type Answer = [u64; 8];
 
-#[link(name = "export", kind = "static")]
+#[link(name = "tjornsaki", kind = "static")]
 extern "C" {
     fn tj_wipe(pool: *mut u8, p: usize, records: *mut u8, r: usize, answer: *mut u64);
     fn tj_create(pool: *mut u8, p: usize, records: *mut u8, r: usize, answer: *mut u64);
