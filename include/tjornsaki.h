@@ -10,7 +10,9 @@
  *   - answer points to eight numbers,
  *   - pool, records, out and answer do not overlap, and neither does data with pool, records or answer,
  *   - no other thread touches them during the call.
- * A function keeps no pointer and nothing else between calls, takes no memory from the heap, and calls nothing but C's memset.
+ * A function keeps no pointer and nothing else between calls, takes no memory from the heap, and calls nothing but C's memset and memcpy.
+ * It needs at most TJ_STACK bytes of stack, whatever comes in: its own rows have a place for each of 1,024 slots, ten bytes a slot in write,
+ * resize and delete, five in length, read and show, one in create and audit. tests/c/stack.c measures it.
  *
  * Every function leaves eight numbers in answer, whatever was there before:
  *   answer[TJ_REFUSAL]      the number of the refusal, 0 if the call was done
@@ -28,8 +30,8 @@
  *    5  moved: a block says another slot than its own; names the slot where it lies
  *    6  rolled back: a block's version is below its record; names its slot
  *    7  ahead: a block's version is above its record; names its slot
- *    8  wrong shape: names the block whose height, count, trailing bytes or child is wrong, or the part that no blob has
- *    9  reintroduced: a block in a free slot; names that slot
+ *    8  wrong shape: names the block whose height, count, trailing bytes or child slot is wrong, or the part that no blob has
+ *    9  reintroduced: a block's row names a free slot, or a free slot is not all zeros; names that free slot
  *   10  the stretch does not lie within the blob's length, or the blob has no leaf of that number
  *   11  more new blocks are needed than there are usable free slots
  *   12  write or resize of a blob that has a block at version 2^64 - 1
@@ -62,6 +64,9 @@ extern "C" {
 #define TJ_RECORD 12
 #define TJ_LEAF 48
 #define TJ_SLOTS 1024
+
+/* The most bytes of stack that a call takes. */
+#define TJ_STACK 16384
 
 /* The refusals. */
 #define TJ_DONE 0
