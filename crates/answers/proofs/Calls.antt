@@ -34,7 +34,6 @@ module _ (a : List ℕ) where
 
   module _ (e : Edition) (P R P′ R′ : List ℕ) where
     pub wipe-numbers : (x : Finished) → Wipes e P R x P′ R′ → a ≡ numbers (finishedSaid x) → WipeNumbers e P R a P′ R′
-    unfolding finishNumbers
     wipe-numbers x h ea =
         record {
           answer = ea ∙ ap (λ (y : Finished). numbers (finishedSaid y)) (h .answer);

@@ -3,8 +3,8 @@ use mathlib.Core.Path.{_≡_}
 use mathlib.Core.List.{List, [], _∷_}
 use Prim.Native.Nat.{ℕ}
 use Rattle.meaning.specs.Refusals.{slotNumber}
-use Rattle.meaning.specs.Calls.{Outcome, wipeCall, afterWipe}
-use Rattle.meaning.specs.Answers.{lengthAnswer, auditAnswer, createAnswer, changeAnswer, finishAnswer, leafAnswer, readOut}
+use Rattle.meaning.specs.Calls.{Outcome, afterWipe}
+use Rattle.meaning.specs.Answers.{lengthAnswer, auditAnswer, createAnswer, changeAnswer, finishAnswer, wipeAnswer, leafAnswer, readOut}
 use Rattle.meaning.specs.Answers.{Said, yields, refuses, lengthSaid, auditSaid, createdSaid, changedSaid, finishedSaid, leafSaid}
 use Rattle.meaning.specs.declared.Edition.{Edition}
 use Rattle.meaning.specs.declared.Named.the-variants.{Nowhere}
@@ -39,7 +39,7 @@ createNumbers o = numbers (createdSaid (createAnswer o))
 unfoldable pub changeNumbers : Outcome (Unit {0}) → List ℕ
 changeNumbers o = numbers (changedSaid (changeAnswer o))
 
--- read and wipe
+-- read
 unfoldable pub finishNumbers : {A : Type 0} → Outcome A → List ℕ
 finishNumbers o = numbers (finishedSaid (finishAnswer o))
 
@@ -54,6 +54,6 @@ pub record ReadNumbers (o : Outcome (List ℕ)) (a out out′ : List ℕ) : Type
 
 -- a wipe of pool P and records R leaves the numbers a, and P′ and R′
 pub record WipeNumbers (e : Edition) (P R a P′ R′ : List ℕ) : Type 0 where
-  pub answer : a ≡ finishNumbers (wipeCall e P R)
+  pub answer : a ≡ numbers (finishedSaid (wipeAnswer e P R))
   pub pool : P′ ≡ afterWipe e (record { pool = P; records = R }) .pool
   pub records : R′ ≡ afterWipe e (record { pool = P; records = R }) .records

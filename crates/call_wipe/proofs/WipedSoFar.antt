@@ -12,8 +12,8 @@ use Rattle.meaning.specs.Lists.{pick, pasted}
 use Rattle.meaning.specs.Bytes.{recordWith, recordOf}
 use Rattle.meaning.specs.Refusals.{nowhere}
 use Rattle.meaning.specs.Change.{put}
-use Rattle.meaning.specs.Calls.{refuseIf, slotsIn, sized, wipeCall, freeRecords, wiped, afterWipe}
-use Rattle.meaning.specs.Answers.{finishAnswer, Wipes}
+use Rattle.meaning.specs.Calls.{slotsIn, sized, freeRecords, wiped, afterWipe}
+use Rattle.meaning.specs.Answers.{wipeAnswer, Wipes}
 use Rattle.meaning.specs.declared.Edition.{Edition}
 use Rattle.meaning.specs.declared.Refusal.{Refusal}
 use Rattle.meaning.specs.declared.Finished.the-variants as finishedCase
@@ -56,20 +56,20 @@ free-start R = refl
 -- the lengths decide
 module _ (e : Edition) (P R : List ℕ) (s : Bool) (es : s ≡ sized e P R) where
   pub wipe-lengths : not s ≡ true → (q : Refusal) → q ≡ nowhere 1 → Wipes e P R (finishedCase.Refused q) P R
-  unfolding wipeCall refuseIf finishAnswer afterWipe pick
+  unfolding wipeAnswer afterWipe pick
   wipe-lengths t q eq =
-      record { answer = rw eq (simp (← es, t)); pool = simp (← es, not-true s t); records = simp (← es, not-true s t) }
+      record { answer = rw eq (simp (← es, not-true s t)); pool = simp (← es, not-true s t); records = simp (← es, not-true s t) }
 
   pub wipe-records : not s ≡ false → length R ≡ 12 * (length P / e .size)
   unfolding slotsIn
   wipe-records t = sized-whole e P R (sym es ∙ not-false s t) .records
 
   pub wipe-done : not s ≡ false → (P′ R′ : List ℕ) → P′ ≡ replicate (length P) 0 → R′ ≡ freeRecords (length P / e .size) → Wipes e P R finishedCase.Done P′ R′
-  unfolding wipeCall refuseIf finishAnswer afterWipe wiped pick slotsIn
+  unfolding wipeAnswer afterWipe wiped pick slotsIn
   wipe-done t P′ R′ ep er =
       let w : length P ≡ e .size * (length P / e .size) = sized-whole e P R (sym es ∙ not-false s t) .pool in
       record {
-        answer = simp (← es, t);
+        answer = simp (← es, not-false s t);
         pool = ep ∙ ap (λ (j : ℕ). replicate {A = ℕ} j 0) w ∙ simp (← es, not-false s t);
         records = er ∙ simp (← es, not-false s t);
       }

@@ -13,8 +13,8 @@ use Rattle.meaning.specs.declared.Edition.{Edition}
 use Rattle.meaning.specs.Lists.{pick, joined, ofLast, mapLast, only}
 use Rattle.meaning.specs.Bytes.{Cell}
 use Rattle.meaning.specs.Tree.{Tree, Blob, slotOf, atSlot, leavesOf, lengthOf, slotsOf, just, held}
-use Rattle.meaning.specs.Resize.{lowest, chain, onLast, roomy, hang, raised, addLeaf, addLeaves, lastLeaf, longer}
-use Rattle.meaning.specs.Resize.{keepRow, keep, lower, shorter, resized, along, refill, refilled}
+use Rattle.meaning.specs.Resize.{Grown, lowest, chain, onLast, roomy, hang, raised, addLeaf, addLeaves, lastLeaf, longer}
+use Rattle.meaning.specs.Resize.{keepRow, keep, lower, shorter, resized, Spread, along, refill, refilled}
 use Rattle.laws.proofs.Inversions.{by-test}
 use Rattle.laws_history.proofs.WalkOrder.{Each, each-left, each-right, each-both, slots, blob-slots}
 
@@ -35,15 +35,15 @@ held-slot Q (d ∷ cs) x c p q =
 
 module _ (Q : ℕ → Type 0) where
   -- a row of trees each of which keeps the claim
-  along-taken : {A : Type 0} (sl : A → List ℕ) (f : List ℕ → A → A × List ℕ) → ((d : List ℕ) (x : A) → Each Q (sl x) → Each Q (sl (f d x .0)))
-      → (d : List ℕ) (xs : List A) → Each Q (joined (map sl xs)) → Each Q (joined (map sl (along f d xs .0)))
+  along-taken : {A : Type 0} (sl : A → List ℕ) (f : List ℕ → A → Spread A) → ((d : List ℕ) (x : A) → Each Q (sl x) → Each Q (sl (f d x .made)))
+      → (d : List ℕ) (xs : List A) → Each Q (joined (map sl xs)) → Each Q (joined (map sl (along f d xs .made)))
   unfolding along joined
   along-taken sl f g d [] q = tt
   along-taken sl f g d (x ∷ xs) q =
-      each-both Q (sl (f d x .0)) _ (g d x (each-left Q (sl x) _ q)) (along-taken sl f g (f d x .1) xs (each-right Q (sl x) _ q))
+      each-both Q (sl (f d x .made)) _ (g d x (each-left Q (sl x) _ q)) (along-taken sl f g (f d x .left) xs (each-right Q (sl x) _ q))
 
   -- the same blocks with other bytes
-  refill-taken : (h : ℕ) (d : List ℕ) (t : Tree h) → Each Q (slots h t) → Each Q (slots h (refill h d t .0))
+  refill-taken : (h : ℕ) (d : List ℕ) (t : Tree h) → Each Q (slots h t) → Each Q (slots h (refill h d t .made))
   unfolding refill slots
   refill-taken zero d t q = q
   refill-taken (suc h) d t q = (q .0, along-taken (slots h) (refill h) (refill-taken h) d (t .1) (q .1))
@@ -140,20 +140,20 @@ module _ (Q : ℕ → Type 0) where
     rest-taken (x ∷ xs) q = q .1
 
     -- a chain of new blocks
-    chain-taken : (h : ℕ) (d free : List ℕ) → Each Q free → Both (slots h (chain h d free .0)) (chain h d free .1)
+    chain-taken : (h : ℕ) (d free : List ℕ) → Each Q free → Both (slots h (chain h d free .made)) (chain h d free .free)
     unfolding chain slots joined
     chain-taken zero d free q = ((lowest-taken free q, tt), rest-taken free q)
     chain-taken (suc h) d free q =
         let r = chain-taken h d (drop 1 free) (rest-taken free q) in
-        ((lowest-taken free q, each-both Q (slots h (chain h d (drop 1 free) .0)) [] (r .0) tt), r .1)
+        ((lowest-taken free q, each-both Q (slots h (chain h d (drop 1 free) .made)) [] (r .0) tt), r .1)
 
     -- the last of a row changed, with the free slots left
-    on-last-taken : {A : Type 0} (sl : A → List ℕ) (f : A → A × List ℕ) → ((x : A) → Each Q (sl x) → Both (sl (f x .0)) (f x .1))
+    on-last-taken : {A : Type 0} (sl : A → List ℕ) (f : A → Grown A) → ((x : A) → Each Q (sl x) → Both (sl (f x .made)) (f x .free))
         → (xs : List A) (free : List ℕ) → Each Q (joined (map sl xs)) → Each Q free
-        → Both (joined (map sl (onLast f xs free .0))) (onLast f xs free .1)
+        → Both (joined (map sl (onLast f xs free .made))) (onLast f xs free .free)
     unfolding onLast joined
     on-last-taken sl f g [] free q r = (tt, r)
-    on-last-taken sl f g (x ∷ []) free q r = let s = g x (each-left Q (sl x) [] q) in (each-both Q (sl (f x .0)) [] (s .0) tt, s .1)
+    on-last-taken sl f g (x ∷ []) free q r = let s = g x (each-left Q (sl x) [] q) in (each-both Q (sl (f x .made)) [] (s .0) tt, s .1)
     on-last-taken sl f g (x ∷ (y ∷ ys)) free q r =
         let s = on-last-taken sl f g (y ∷ ys) free (each-right Q (sl x) _ q) r in
         (each-both Q (sl x) _ (each-left Q (sl x) _ q) (s .0), s .1)
@@ -167,13 +167,13 @@ module _ (Q : ℕ → Type 0) where
 
     -- a chain hung where there is room
     hang-taken : (fan h : ℕ) (d free : List ℕ) (t : Tree h) → Each Q (slots h t) → Each Q free
-        → Both (slots h (hang fan h d free t .0)) (hang fan h d free t .1)
+        → Both (slots h (hang fan h d free t .made)) (hang fan h d free t .free)
     unfolding hang slots
     hang-taken fan zero d free t q r = (q, r)
     hang-taken fan (suc h) d free t q r =
         let deep = on-last-taken (slots h) (hang fan h d free) (λ x q. hang-taken fan h d free x q r) (t .1) free (q .1) r in
         let new = chain-taken h d free r in
-        picked (λ (p : Tree (suc h) × List ℕ). Both (slots (suc h) (p .0)) (p .1)) (ofLast (roomy fan h) (t .1)) _ _
+        picked (λ (g : Grown (Tree (suc h))). Both (slots (suc h) (g .made)) (g .free)) (ofLast (roomy fan h) (t .1)) _ _
         ((q .0, deep .0), deep .1)
         ((q .0, more-taken (slots h) (t .1) _ (q .1) (new .0)), new .1)
 
@@ -185,14 +185,14 @@ module _ (Q : ℕ → Type 0) where
 
     -- one leaf more
     one-taken : (fan : ℕ) (d : List ℕ) (b : Blob) (free : List ℕ) → Each Q (slotsOf b) → Each Q free
-        → Both (slotsOf (addLeaf fan d b free .0)) (addLeaf fan d b free .1)
+        → Both (slotsOf (addLeaf fan d b free .made)) (addLeaf fan d b free .free)
     unfolding addLeaf
     one-taken fan d b free q r =
         let h = b .height in
         let up = raised-taken h free (b .tree) (to-tree b q) r in
         let tall = hang-taken fan (suc h) d (drop 1 free) (raised h free (b .tree)) up (rest-taken free r) in
         let wide = hang-taken fan h d free (b .tree) (to-tree b q) r in
-        picked (λ (p : Blob × List ℕ). Both (slotsOf (p .0)) (p .1)) (eqb (length (leavesOf b)) (fan ^ h)) _ _
+        picked (λ (g : Grown Blob). Both (slotsOf (g .made)) (g .free)) (eqb (length (leavesOf b)) (fan ^ h)) _ _
         (to-blob _ (tall .0), tall .1) (to-blob _ (wide .0), wide .1)
 
     -- leaves added one by one

@@ -2,9 +2,9 @@
 use mathlib.Core.Path.{_≡_}
 use mathlib.Core.List.{List, [], _∷_}
 use Prim.Native.Nat.{ℕ, _+_, _*_}
-use Rattle.meaning.specs.Lists.{part}
-use Rattle.meaning.specs.Refusals.{slotNumber}
-use Rattle.meaning.specs.Calls.{Outcome, refused, done, after, wipeCall, afterWipe}
+use Rattle.meaning.specs.Lists.{pick, part}
+use Rattle.meaning.specs.Refusals.{nowhere, slotNumber}
+use Rattle.meaning.specs.Calls.{Outcome, refused, done, sized, after, afterWipe}
 use Rattle.meaning.specs.declared.Edition.{Edition}
 use Rattle.meaning.specs.declared.Named.the-variants.{Nowhere}
 use Rattle.meaning.specs.declared.Refusal.{Refusal}
@@ -38,10 +38,14 @@ unfoldable pub changeAnswer : Outcome (Unit {0}) → Changed
 changeAnswer (refused r) = changedCase.Refused r
 changeAnswer (done v cs) = changedCase.Done
 
--- read and wipe
+-- read
 unfoldable pub finishAnswer : {A : Type 0} → Outcome A → Finished
 finishAnswer (refused r) = finishedCase.Refused r
 finishAnswer (done v cs) = finishedCase.Done
+
+-- wipe checks 1 only; what it leaves is afterWipe (Calls)
+unfoldable pub wipeAnswer : Edition → (P R : List ℕ) → Finished
+wipeAnswer e P R = pick (sized e P R) finishedCase.Done (finishedCase.Refused (nowhere 1))
 
 -- where a shown leaf's data bytes lie in the pool
 unfoldable pub leafAnswer : Edition → Outcome (ℕ × ℕ) → Leaf
@@ -75,7 +79,7 @@ pub record Ends {A X : Type 0} (e : Edition) (say : Outcome A → X) (o : Outcom
 
 -- a wipe of pool P and records R answers x and leaves P′ and R′
 pub record Wipes (e : Edition) (P R : List ℕ) (x : Finished) (P′ R′ : List ℕ) : Type 0 where
-  pub answer : x ≡ finishAnswer (wipeCall e P R)
+  pub answer : x ≡ wipeAnswer e P R
   pub pool : P′ ≡ afterWipe e (record { pool = P; records = R }) .pool
   pub records : R′ ≡ afterWipe e (record { pool = P; records = R }) .records
 

@@ -179,10 +179,6 @@ module _ (e : Edition) (P R : List ℕ) where
   unfoldable pub deleteCall : (r : ℕ) → Outcome (Unit {0})
   deleteCall r = opened e P R (deleteIn e (slotsIn e P) P R r)
 
-  -- wipe checks 1 only
-  unfoldable pub wipeCall : Outcome (Unit {0})
-  wipeCall = refuseIf (not (sized e P R)) 1 (done tt [])
-
 -- the store after a call: a refusal writes nothing anywhere
 unfoldable pub after : {A : Type 0} → Edition → Store → Outcome A → Store
 after e S (refused r) = S
@@ -196,6 +192,7 @@ freeRecords (suc n) = recordOf 0 0 ++ freeRecords n
 unfoldable pub wiped : Edition → ℕ → Store
 wiped e n = record { pool = replicate (e .size * n) 0; records = freeRecords n }
 
--- what wipe changes is everything, so its store is given whole
+-- Wipe checks 1 only. What it changes is everything, so it has no Outcome with a list of changes: the store after it is given whole, and its
+-- answer, refusal 1 or done, is wipeAnswer (Answers).
 unfoldable pub afterWipe : Edition → Store → Store
 afterWipe e S = pick (sized e (S .pool) (S .records)) (wiped e (slotsIn e (S .pool))) S

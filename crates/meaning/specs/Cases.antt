@@ -1,8 +1,8 @@
--- Document 01's numbers to try that are marked P, its whole one-slot example, and an example of each refusal: one statement over one list of cases,
--- which computes. A case is data, read by the function `right` alone.
+-- Document 01's numbers to try that are marked P, its whole one-slot example, a resize worked out slot by slot, and an example of each refusal: one
+-- statement over one list of cases, which computes. A case is data, read by the function `right` alone.
 use mathlib.Core.Path.{_≡_, refl}
 use mathlib.Core.Bool.{Bool, true, false}
-use mathlib.Core.List.{List, [], _∷_, _++_}
+use mathlib.Core.List.{List, [], _∷_, _++_, map}
 use Prim.Native.Nat.{ℕ, _+_, _-_, _^_}
 use lib.Dec.{eqb}
 use lib.ListN.{replicate, set}
@@ -112,6 +112,57 @@ cases =
     ∷ [])
     ∷ []
 
+-- A resize worked out, to be followed with a pencil: in 17 slots one blob gets 576 bytes, then 577, then 625, and then 576 again. A fact names a slot,
+-- its state (2 root, 1 part), its version, of an inner block its height, and the bytes or children. Slots 1 to 12 stay the same leaves throughout:
+unfoldable pub twelve : List Fact
+twelve = map (λ s. leaf s 1 1 (replicate 48 0)) (range 1 12)
+
+unfoldable pub worked : List Case
+worked =
+    script 17
+    (record { call = create; answer = 0 ∷ []; facts = leaf 0 2 1 [] ∷ [] }
+    -- 576 bytes are 12 leaves. One leaf there is, slot 0, and 1 = 12^0 at its height 0. So for the second leaf slot 1 takes what the root holds, and the
+    -- root becomes height 1 with the one child 1. Each further leaf takes the lowest free slot and hangs at the root.
+    ∷ record {
+      call = resize 0 576;
+      answer = [];
+      facts = inner 0 2 2 1 (1 ∷ 2 ∷ 3 ∷ 4 ∷ 5 ∷ 6 ∷ 7 ∷ 8 ∷ 9 ∷ 10 ∷ 11 ∷ 12 ∷ []) ∷ free 13 0 ∷ free 14 0 ∷ free 15 0 ∷ free 16 0 ∷ twelve;
+    }
+    -- 577 bytes are 13 leaves. 12 there are, and 12 = 12^1 at height 1. So first the lowest free slot, 13, takes the root's height, count and children,
+    -- and the root becomes height 2 with the one child 13. On the right edge slot 13 has 12 children, the root has one: so at the root a chain hangs,
+    -- top first: slot 14 of height 1, and under it slot 15, the new leaf, of one byte.
+    ∷ record {
+      call = resize 0 577;
+      answer = [];
+      facts = inner 0 2 3 2 (13 ∷ 14 ∷ [])
+          ∷ inner 13 1 1 1 (1 ∷ 2 ∷ 3 ∷ 4 ∷ 5 ∷ 6 ∷ 7 ∷ 8 ∷ 9 ∷ 10 ∷ 11 ∷ 12 ∷ [])
+          ∷ inner 14 1 1 1 (15 ∷ [])
+          ∷ leaf 15 1 1 (0 ∷ [])
+          ∷ free 16 0
+          ∷ twelve;
+    }
+    -- 625 bytes are 14 leaves. The last leaf, slot 15, fills to 48 bytes. 13 is not 12^2, so the root stays. The lowest block of the right edge with
+    -- fewer than 12 children is now slot 14: there the chain hangs, which is one leaf, slot 16. The root and slot 13 are unchanged in every byte.
+    ∷ record {
+      call = resize 0 625;
+      answer = [];
+      facts = inner 0 2 3 2 (13 ∷ 14 ∷ [])
+          ∷ inner 13 1 1 1 (1 ∷ 2 ∷ 3 ∷ 4 ∷ 5 ∷ 6 ∷ 7 ∷ 8 ∷ 9 ∷ 10 ∷ 11 ∷ 12 ∷ [])
+          ∷ inner 14 1 2 1 (15 ∷ 16 ∷ [])
+          ∷ leaf 15 1 2 (replicate 48 0)
+          ∷ leaf 16 1 1 (0 ∷ [])
+          ∷ twelve;
+    }
+    -- 576 bytes again: the leaves 16 and 15 go; slot 14 has no child left and goes; the root has one child only, 13, so it takes over height, count and
+    -- children of 13, and 13 goes. The four slots are free and keep their versions.
+    ∷ record {
+      call = resize 0 576;
+      answer = [];
+      facts = inner 0 2 4 1 (1 ∷ 2 ∷ 3 ∷ 4 ∷ 5 ∷ 6 ∷ 7 ∷ 8 ∷ 9 ∷ 10 ∷ 11 ∷ 12 ∷ []) ∷ free 13 1 ∷ free 14 2 ∷ free 15 2 ∷ free 16 1 ∷ twelve;
+    }
+    ∷ [])
+    ∷ []
+
 -- an empty leaf of slot 0 at this version
 unfoldable pub empty : (version : ℕ) → List ℕ
 empty version = encoded one (record { height = 0; items = [] }) 0 version
@@ -153,6 +204,6 @@ refusals =
     ∷ refusal (beside (empty (2 ^ 64 - 1)) (recordOf 2 (2 ^ 64 - 1))) (write 0 0 []) 12 Nowhere
     ∷ []
 
-pub cases-hold : all right (cases ++ refusals) ≡ true
-unfolding cases refusals right played sameSaid true-of holds empty two beside one pick both part pasted joined range filter all ofLast mapLast only sameList zeros number bytes padded fours sameCell itemBytes header blockBytes encoded block heightOf countOf ownSlot versionOf dataOf childrenOf recordWith recordOf recordAt stateOf recordedOf state recorded soundRecord lastVersion usableSlot slotOf atSlot content leaves cells rootOf contentOf leavesOf cellsOf slotsOf lengthOf held up leavesFor totalWithin total leastCount mostCount refusalOf at nowhere must first flaw used formed blockCheck isRoot linkCheck andThen passing isEmpty oneVisit visitRow visit fromRoot roots closingCheck closing poolCheck put puts changedBy freed renewed changed changes lowest chain onLast roomy hang raised addLeaf addLeaves lastLeaf share shares lastBytes longer keepRow keep lower shorter resized refuseIf afterCheck slotsIn sized refuseBadRecord opened withBlob usable rooted changing refuseWorn refuseFull become createOn createIn newBlocks resizeOn resizeIn createCall resizeCall after freeRecords wiped saidBy says perform reading blobCheck lengthOn lengthIn refusePast readOn readIn live auditOn auditIn writeOn writeIn lengthCall readCall auditCall writeCall along refill refilled slotNumber
+pub cases-hold : all right (cases ++ (worked ++ refusals)) ≡ true
+unfolding cases worked twelve refusals right played sameSaid true-of holds empty two beside one pick both part pasted joined range filter all ofLast mapLast only sameList zeros number bytes padded fours sameCell itemBytes header blockBytes encoded block heightOf countOf ownSlot versionOf dataOf childrenOf recordWith recordOf recordAt stateOf recordedOf state recorded soundRecord lastVersion usableSlot slotOf atSlot content leaves cells rootOf contentOf leavesOf cellsOf slotsOf lengthOf held up leavesFor totalWithin total leastCount mostCount refusalOf at nowhere must first flaw used formed blockCheck isRoot linkCheck andThen passing isEmpty oneVisit visitRow visit fromRoot roots closingCheck closing poolCheck put puts changedBy freed renewed changed changes lowest chain onLast roomy hang raised addLeaf addLeaves lastLeaf share shares lastBytes longer keepRow keep lower shorter resized refuseIf afterCheck slotsIn sized refuseBadRecord opened withBlob usable rooted changing refuseWorn refuseFull become createOn createIn newBlocks resizeOn resizeIn createCall resizeCall after freeRecords wiped saidBy says perform reading blobCheck lengthOn lengthIn refusePast readOn readIn live auditOn auditIn writeOn writeIn lengthCall readCall auditCall writeCall along refill refilled slotNumber
 cases-hold = refl

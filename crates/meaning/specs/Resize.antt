@@ -1,4 +1,5 @@
--- Longer, leaf by leaf; shorter; and the same blocks with other bytes.
+-- What resize and write make of a blob, in the words of document 01 and in their order. Quoted words are the paper's, for any leaf and fan-out.
+-- Cases.antt works one resize out, slot by slot.
 use mathlib.Core.Bool.{Bool, true, false}
 use mathlib.Core.List.{List, [], _∷_, _++_}
 use Prim.Native.Nat.{ℕ, zero, suc, _+_, _-_, _*_, _^_, min}
@@ -9,116 +10,147 @@ use Rattle.meaning.specs.declared.Edition.{Edition}
 use Rattle.meaning.specs.Shape.{leavesFor}
 use Rattle.meaning.specs.Tree.{Tree, Blob, slotOf, atSlot, leaves, contentOf, leavesOf, lengthOf}
 
--- the lowest usable free slot; of none, a number past every pool
-unfoldable pub lowest : List ℕ → ℕ
+-- RESIZE, LONGER: "the last leaf fills with zeros, then leaves are added one by one". The paper's height d is h here; d is what a leaf holds.
+
+-- how many bytes of len the i-th leaf holds; and each of k leaves from the i-th on
+unfoldable pub share : Edition → (len i : ℕ) → ℕ
+share e len i = min (e .leaf) (len - e .leaf * i)
+
+unfoldable pub shares : Edition → (len i k : ℕ) → List ℕ
+shares e len i zero = []
+shares e len i (suc k) = share e len i ∷ shares e len (suc i) k
+
+-- the bytes of the last of n leaves, of such content cut or filled with zeros to len
+unfoldable pub lastBytes : Edition → (len n : ℕ) → (content : List ℕ) → List ℕ
+lastBytes e len n content = padded (share e len (n - 1)) (drop (e .leaf * (n - 1)) content)
+
+-- the last leaf with d for its bytes
+unfoldable pub lastLeaf : (h : ℕ) → (d : List ℕ) → Tree h → Tree h
+lastLeaf zero d t = let (slot, bytes) = t in (slot, d)
+lastLeaf (suc h) d t = let (slot, children) = t in (slot, mapLast (lastLeaf h d) children)
+
+-- New blocks take their slots from `free`, the usable free slots, rising. So what grows gives two things: the tree, row or blob that is made, and the
+-- free slots that are left after it.
+pub record Grown (A : Type 0) : Type 0 where
+  pub made : A
+  pub free : List ℕ
+
+-- "the lowest usable free slot"; of none, a number past every pool
+unfoldable pub lowest : (free : List ℕ) → ℕ
 lowest free = getD free 0 (2 ^ 32)
 
--- a chain of new blocks, top first, down to a leaf that holds d; and the free slots left
-unfoldable pub chain : (h : ℕ) → List ℕ → List ℕ → Tree h × List ℕ
-chain zero d free = ((lowest free, d), drop 1 free)
-chain (suc h) d free =
-    let below = chain h d (drop 1 free) in
-    ((lowest free, below .0 ∷ []), below .1)
-
--- the last element changed, with the free slots left
-unfoldable pub onLast : {A : Type 0} → (A → A × List ℕ) → List A → List ℕ → List A × List ℕ
-onLast f [] free = ([], free)
-onLast f (x ∷ []) free = (f x .0 ∷ [], f x .1)
-onLast f (x ∷ (y ∷ ys)) free = let rest = onLast f (y ∷ ys) free in (x ∷ rest .0, rest .1)
-
--- whether the right edge has an inner block with fewer than fan children
-unfoldable pub roomy : ℕ → (h : ℕ) → Tree h → Bool
-roomy fan zero t = false
-roomy fan (suc h) t = pick (ltb (length (t .1)) fan) true (ofLast (roomy fan h) (t .1))
-
--- a chain hung at the lowest such block
-unfoldable pub hang : ℕ → (h : ℕ) → List ℕ → List ℕ → Tree h → Tree h × List ℕ
-hang fan zero d free t = (t, free)
-hang fan (suc h) d free t =
-    let deeper = onLast (hang fan h d free) (t .1) free in
-    let new = chain h d free in
-    pick (ofLast (roomy fan h) (t .1)) ((t .0, deeper .0), deeper .1) ((t .0, t .1 ++ (new .0 ∷ [])), new .1)
-
--- the old root's row in the next free slot, under a root one higher
-unfoldable pub raised : (h : ℕ) → List ℕ → Tree h → Tree (suc h)
+-- "first the lowest usable free slot takes the old root's height, count and payload, and the root becomes height d + 1 with that one child"
+unfoldable pub raised : (h : ℕ) → (free : List ℕ) → Tree h → Tree (suc h)
 raised h free t = (slotOf h t, atSlot h (lowest free) t ∷ [])
 
-unfoldable pub addLeaf : ℕ → List ℕ → Blob → List ℕ → Blob × List ℕ
+-- "Then at the lowest block of the right edge, inner, with fewer than 12 children": whether there is such a block at or below this one
+unfoldable pub roomy : (fan h : ℕ) → Tree h → Bool
+roomy fan zero t = false
+roomy fan (suc h) t = let (slot, children) = t in pick (ltb (length children) fan) true (ofLast (roomy fan h) children)
+
+-- "hang a chain of new blocks one height lower each down to a leaf, each taking the lowest usable free slot, top first"; the leaf holds d
+unfoldable pub chain : (h : ℕ) → (d free : List ℕ) → Grown (Tree h)
+chain zero d free = record { made = (lowest free, d); free = drop 1 free }
+chain (suc h) d free =
+    let below = chain h d (drop 1 free) in
+    record { made = (lowest free, below .made ∷ []); free = below .free }
+
+-- a row of trees, the last of which grows as f says
+unfoldable pub onLast : {A : Type 0} → (A → Grown A) → List A → (free : List ℕ) → Grown (List A)
+onLast f [] free = record { made = []; free = free }
+onLast f (x ∷ []) free = let last = f x in record { made = last .made ∷ []; free = last .free }
+onLast f (x ∷ (y ∷ ys)) free =
+    let rest = onLast f (y ∷ ys) free in
+    record { made = x ∷ rest .made; free = rest .free }
+
+-- the chain hung: below the last child if there is such a block there, and else here, as one more child
+unfoldable pub hang : (fan h : ℕ) → (d free : List ℕ) → Tree h → Grown (Tree h)
+hang fan zero d free t = record { made = t; free = free }
+hang fan (suc h) d free t =
+    let (slot, children) = t in
+    let deeper = onLast (hang fan h d free) children free in
+    let new = chain h d free in
+    pick (ofLast (roomy fan h) children)
+    (record { made = (slot, deeper .made); free = deeper .free })
+    (record { made = (slot, children ++ (new .made ∷ [])); free = new .free })
+
+-- "To add one when n .. equals 12^d for the present height d: first" the root is raised, and the chain takes the free slots after that one; at any other
+-- n the chain hangs in the tree as it is
+unfoldable pub addLeaf : (fan : ℕ) → (d : List ℕ) → Blob → (free : List ℕ) → Grown Blob
 addLeaf fan d b free =
     let h = b .height in
     let tall = hang fan (suc h) d (drop 1 free) (raised h free (b .tree)) in
     let wide = hang fan h d free (b .tree) in
     pick (eqb (length (leavesOf b)) (fan ^ h))
-    (record { height = suc h; tree = tall .0 }, tall .1)
-    (record { height = h; tree = wide .0 }, wide .1)
+    (record { made = record { height = suc h; tree = tall .made }; free = tall .free })
+    (record { made = record { height = h; tree = wide .made }; free = wide .free })
 
--- leaves of zeros of these lengths, added one by one
-unfoldable pub addLeaves : ℕ → List ℕ → Blob → List ℕ → Blob
+-- leaves of zeros of these lengths, "one by one"
+unfoldable pub addLeaves : (fan : ℕ) → (lens : List ℕ) → Blob → (free : List ℕ) → Blob
 addLeaves fan [] b free = b
 addLeaves fan (len ∷ lens) b free =
     let more = addLeaf fan (replicate len 0) b free in
-    addLeaves fan lens (more .0) (more .1)
+    addLeaves fan lens (more .made) (more .free)
 
--- the last leaf with d for its bytes
-unfoldable pub lastLeaf : (h : ℕ) → List ℕ → Tree h → Tree h
-lastLeaf zero d t = (t .0, d)
-lastLeaf (suc h) d t = (t .0, mapLast (lastLeaf h d) (t .1))
-
--- how many bytes of len the i-th leaf holds; and of k leaves from the i-th on
-unfoldable pub share : Edition → ℕ → ℕ → ℕ
-share e len i = min (e .leaf) (len - e .leaf * i)
-
-unfoldable pub shares : Edition → ℕ → ℕ → ℕ → List ℕ
-shares e len i zero = []
-shares e len i (suc k) = share e len i ∷ shares e len (suc i) k
-
--- the bytes of the last of n leaves, of such content cut or filled with zeros to len
-unfoldable pub lastBytes : Edition → ℕ → ℕ → List ℕ → List ℕ
-lastBytes e len n c = padded (share e len (n - 1)) (drop (e .leaf * (n - 1)) c)
-
--- longer: the last leaf fills with zeros, then leaves are added
-unfoldable pub longer : Edition → ℕ → List ℕ → Blob → Blob
+-- the whole: the last of n leaves fills, then as many are added as the new length has more
+unfoldable pub longer : Edition → (len : ℕ) → (free : List ℕ) → Blob → Blob
 longer e len free b =
     let n = length (leavesOf b) in
     let filled = lastLeaf (b .height) (lastBytes e len n (contentOf b)) (b .tree) in
     addLeaves (e .fan) (shares e len n (leavesFor (e .leaf) len - n)) (record { height = b .height; tree = filled }) free
 
--- of a row of trees, those that hold the first n leaves, the last of them cut
-unfoldable pub keepRow : {A : Type 0} → (A → ℕ) → (ℕ → A → A) → ℕ → List A → List A
+-- RESIZE, SHORTER: "leaves go from the right and the last one left is cut, zeros after".
+
+-- the first n leaves of a row of trees, the last tree cut: what holds none of them goes, so "an inner block with no child goes"
+unfoldable pub keepRow : {A : Type 0} → (count : A → ℕ) → (cut : ℕ → A → A) → (n : ℕ) → List A → List A
 keepRow count cut n [] = []
 keepRow count cut n (x ∷ xs) = pick (eqb n 0) [] (cut n x ∷ keepRow count cut (n - count x) xs)
 
--- the first n leaves and the blocks above them
-unfoldable pub keep : (h : ℕ) → ℕ → Tree h → Tree h
+-- the first n leaves of a tree, and the blocks above them
+unfoldable pub keep : (h n : ℕ) → Tree h → Tree h
 keep zero n t = t
-keep (suc h) n t = (t .0, keepRow (λ x. length (leaves h x)) (keep h) n (t .1))
+keep (suc h) n t = let (slot, children) = t in (slot, keepRow (λ x. length (leaves h x)) (keep h) n children)
 
--- while the root has one child only, it takes over that child's height and row
+-- "While the root has one child only, it takes over that child's height, count and payload and the child goes."
 unfoldable pub lower : (h : ℕ) → Tree h → Blob
 lower zero t = record { height = 0; tree = t }
-lower (suc h) t = only (λ x. lower h (atSlot h (t .0) x)) (record { height = suc h; tree = t }) (t .1)
+lower (suc h) t = let (slot, children) = t in only (λ x. lower h (atSlot h slot x)) (record { height = suc h; tree = t }) children
 
--- shorter: leaves go from the right, the last one left is cut, the root comes down
-unfoldable pub shorter : Edition → ℕ → Blob → Blob
+-- the whole: n leaves are left, the last of them is cut, and the root comes down
+unfoldable pub shorter : Edition → (len : ℕ) → Blob → Blob
 shorter e len b =
     let n = leavesFor (e .leaf) len in
     lower (b .height) (lastLeaf (b .height) (lastBytes e len n (contentOf b)) (keep (b .height) n (b .tree)))
 
-unfoldable pub resized : Edition → ℕ → List ℕ → Blob → Blob
+-- either, by the present length
+unfoldable pub resized : Edition → (len : ℕ) → (free : List ℕ) → Blob → Blob
 resized e len free b = pick (leb (lengthOf b) len) (longer e len free b) (shorter e len b)
 
--- rows of trees, each taking what it needs of a list
-unfoldable pub along : {A : Type 0} → (List ℕ → A → A × List ℕ) → List ℕ → List A → List A × List ℕ
-along f d [] = ([], d)
+-- WRITE "puts bytes inside the present length": the same blocks in the same slots, each leaf with as many bytes as before.
+
+-- Leaves take their bytes from the front of d. So what is filled gives two things: the tree or row that is made, and the bytes that are left of d.
+pub record Spread (A : Type 0) : Type 0 where
+  pub made : A
+  pub left : List ℕ
+
+-- a row of trees, one after the other
+unfoldable pub along : {A : Type 0} → (List ℕ → A → Spread A) → (d : List ℕ) → List A → Spread (List A)
+along f d [] = record { made = []; left = d }
 along f d (x ∷ xs) =
     let one = f d x in
-    let rest = along f (one .1) xs in
-    (one .0 ∷ rest .0, rest .1)
+    let rest = along f (one .left) xs in
+    record { made = one .made ∷ rest .made; left = rest .left }
 
--- the same blocks, whose leaves hold as many bytes as before, taken from d in order
-unfoldable pub refill : (h : ℕ) → List ℕ → Tree h → Tree h × List ℕ
-refill zero d t = ((t .0, take (length (t .1)) d), drop (length (t .1)) d)
-refill (suc h) d t = let r = along (refill h) d (t .1) in ((t .0, r .0), r .1)
+-- a tree whose leaves take their bytes from d
+unfoldable pub refill : (h : ℕ) → (d : List ℕ) → Tree h → Spread (Tree h)
+refill zero d t =
+    let (slot, bytes) = t in
+    record { made = (slot, take (length bytes) d); left = drop (length bytes) d }
+refill (suc h) d t =
+    let (slot, children) = t in
+    let below = along (refill h) d children in
+    record { made = (slot, below .made); left = below .left }
 
-unfoldable pub refilled : List ℕ → Blob → Blob
-refilled d b = record { height = b .height; tree = refill (b .height) d (b .tree) .0 }
+-- a blob with d, as long as its content was, for its content
+unfoldable pub refilled : (d : List ℕ) → Blob → Blob
+refilled d b = record { height = b .height; tree = refill (b .height) d (b .tree) .made }

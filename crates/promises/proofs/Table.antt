@@ -1,29 +1,30 @@
 -- Demand one, whole: the table holds both ways, its numbers, and what is left untouched.
-use mathlib.Core.Path.{_≡_, refl, sym, ap, subst, _∙_}
+use mathlib.Core.Path.{_≡_, refl, sym, subst, _∙_}
 use mathlib.Core.Logic.{_↔_, _⊎_, inl, inr}
-use mathlib.Core.Bool.{false, not}
+use mathlib.Core.Bool.{Bool, true, false}
 use mathlib.Core.List.{List, [], _∷_}
 use Prim.Native.Nat.{ℕ, _+_, _≤_, _<_}
 use native.Mathlib.Omega.{arith}
-use borrow.Author.Tests.{lt-ltb, le-leb, not-true}
+use borrow.Author.Tests.{lt-ltb, le-leb}
 use lib.ListN as list
 use Rattle.meaning.specs.declared.Edition.{Edition}
 use Rattle.meaning.specs.declared.Refusal.{Refusal}
+use Rattle.meaning.specs.declared.Finished.the-variants as finishedCase
 use Rattle.meaning.specs.Lists.{pick}
 use Rattle.meaning.specs.Edition.{Proper}
 use Rattle.meaning.specs.Tree.{Blob, leavesOf, lengthOf}
 use Rattle.meaning.specs.Refusals.{refusalOf, at, nowhere}
 use Rattle.meaning.specs.Walk.{fault, fine}
 use Rattle.meaning.specs.Change.{Store}
-use Rattle.meaning.specs.Calls.{Outcome, refused, done, after, sized, refusePast, refuseFull, wipeCall, wiped, afterWipe}
+use Rattle.meaning.specs.Calls.{Outcome, done, after, sized, refusePast, refuseFull, wiped, afterWipe}
 use Rattle.meaning.specs.Calls.{readOn, readIn, showOn, showIn, createOn, createIn, writeOn, writeIn, resizeOn, resizeIn}
 use Rattle.meaning.specs.Calls.{lengthCall, readCall, showCall, auditCall, createCall, writeCall, resizeCall, deleteCall}
-use Rattle.meaning.specs.Answers.{Said, yields, refuses, shownPart}
+use Rattle.meaning.specs.Answers.{wipeAnswer, Said, yields, refuses, finishedSaid, shownPart}
 use Rattle.meaning.specs.Run.{Call, create, audit, write, resize, delete, tellLength, read, showLeaf, saidBy, says, perform}
 use Rattle.laws.proofs.OneToOne.{length-said-same, audit-said-same, created-said-same, changed-said-same, finished-said-same, leaf-said-same}
 use Rattle.promises.proofs.Stores.{said-refused, refused-said}
 use Rattle.promises.proofs.Faults.{OfWalk, blob-numbered, pool-numbered}
-use Rattle.promises.proofs.Refused.{done-refused, by-if, if-refused, check-passed, opened-passed, worn-refused, worn-passed}
+use Rattle.promises.proofs.Refused.{if-refused, check-passed, opened-passed, worn-refused, worn-passed}
 use Rattle.promises.proofs.One.{chain, chain-table, chain-1, chain-2, chain-3, chain-walk, one-fault, reading-met, changing-met}
 use Rattle.promises.specs.Demands.{slotsAt, blobAt, poolAt, freeAt, newAt, walked, Opened, Met, Worn, DemandOne}
 use Rattle.promises.specs.Demands.{Table, row-1, row-2, row-3, rows-4-to-9, row-12-write, row-12-resize, row-10-write, row-10-read, row-10-show}
@@ -180,12 +181,13 @@ module _ (e : Edition) (p : Proper e) (S : Store) where
   call-untouched (showLeaf r k) q h = refused-after _ (showCall e P R r k) q h
 
   -- wipe
-  wipe-exactly : (q : Refusal) → (wipeCall e P R ≡ refused q) ↔ ((sized e P R ≡ false) × (q ≡ nowhere 1))
-  unfolding wipeCall
-  wipe-exactly q = (
-    (λ h. by-if (not (sized e P R)) 1 _ ((sized e P R ≡ false) × (q ≡ nowhere 1)) h (λ t k. (not-true (sized e P R) t, k)) (λ t z. done-refused z)),
-    (λ (t, k). if-refused _ 1 _ (ap not t) ∙ ap refused (sym k)),
-  )
+  wipe-exactly : (q : Refusal) → (finishedSaid (wipeAnswer e P R) ≡ refuses q) ↔ ((sized e P R ≡ false) × (q ≡ nowhere 1))
+  unfolding wipeAnswer finishedSaid pick
+  wipe-exactly q = (go (sized e P R), λ (t, k). rw (t, k))
+    where
+      go : (t : Bool) → finishedSaid (pick t finishedCase.Done (finishedCase.Refused (nowhere 1))) ≡ refuses q → (t ≡ false) × (q ≡ nowhere 1)
+      go true h = let z : _≡_ {A = ℕ} 0 1 = cc in absurd (omega arith)
+      go false h = let k : q ≡ nowhere 1 = cc in (refl, k)
 
   -- what it leaves
   wipe-leaves : afterWipe e S ≡ pick (sized e P R) (wiped e N) S

@@ -14,8 +14,8 @@ use Rattle.meaning.specs.Refusals.{at, nowhere}
 use Rattle.meaning.specs.Walk.{Found, fault, fine, andThen, blobCheck, poolCheck}
 use Rattle.meaning.specs.Change.{Store}
 use Rattle.meaning.specs.Resize as resizing
-use Rattle.meaning.specs.Calls.{Outcome, refused, slotsIn, sized, usable, live, newBlocks, wipeCall, wiped, afterWipe}
-use Rattle.meaning.specs.Answers.{Ends, Reads, Said, yields, refuses, lengthSaid, auditSaid, createdSaid, changedSaid, finishedSaid, leafSaid}
+use Rattle.meaning.specs.Calls.{Outcome, slotsIn, sized, usable, live, newBlocks, wiped, afterWipe}
+use Rattle.meaning.specs.Answers.{wipeAnswer, Ends, Reads, Said, yields, refuses, lengthSaid, auditSaid, createdSaid, changedSaid, finishedSaid, leafSaid}
 use Rattle.meaning.specs.Run.{Call, create, audit, write, resize, delete, tellLength, read, showLeaf, says, perform, run, bookOf, blocksOf}
 use Rattle.meaning.specs.declared.Edition.{Edition}
 use Rattle.meaning.specs.declared.Named.the-variants.{Slot}
@@ -114,7 +114,7 @@ pub record DemandOne (e : Edition) : Type 1 where
   -- a refused call changes no byte
   pub untouched : (S : Store) (c : Call) (q : Refusal) → says e S c ≡ refuses q → perform e S c ≡ S
   -- wipe checks 1 only
-  pub wipe : (S : Store) (q : Refusal) → (wipeCall e (S .pool) (S .records) ≡ refused q) ↔ (sized e (S .pool) (S .records) ≡ false) × (q ≡ nowhere 1)
+  pub wipe : (S : Store) (q : Refusal) → (finishedSaid (wipeAnswer e (S .pool) (S .records)) ≡ refuses q) ↔ (sized e (S .pool) (S .records) ≡ false) × (q ≡ nowhere 1)
   pub wiping : (S : Store) → afterWipe e S ≡ pick (sized e (S .pool) (S .records)) (wiped e (slotsAt e S)) S
   -- two outcomes that meet one promise are equal: answer, pool and records; answer and output
   pub one-end : {A X : Type 0} (say : Outcome A → X) (o : Outcome A) (P R : List ℕ) (x y : X) (P′ R′ P″ R″ : List ℕ)

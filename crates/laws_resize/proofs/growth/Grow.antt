@@ -54,13 +54,13 @@ unfoldable pub hangs : ℕ → (h : ℕ) → List ℕ → List ℕ → Tree h �
 hangs fan h [] free t = (t, [], free)
 hangs fan h (l ∷ ls) free t =
     let x = hang fan h (replicate l 0) free t in
-    let more = hangs fan h ls (x .1) (x .0) in
+    let more = hangs fan h ls (x .free) (x .made) in
     pick (roomy fan h t) more (t, l ∷ ls, free)
 
 module _ (fan h : ℕ) where
   -- with room the first leaf is hung
   pub hangs-room : (l : ℕ) (ls free : List ℕ) (t : Tree h) → roomy fan h t ≡ true
-      → hangs fan h (l ∷ ls) free t ≡ hangs fan h ls (hang fan h (replicate l 0) free t .1) (hang fan h (replicate l 0) free t .0)
+      → hangs fan h (l ∷ ls) free t ≡ hangs fan h ls (hang fan h (replicate l 0) free t .free) (hang fan h (replicate l 0) free t .made)
   unfolding hangs pick
   hangs-room l ls free t e = rw e
 
@@ -78,7 +78,7 @@ module _ (fan h : ℕ) where
 
   -- what a chain grows to
   abbrev started : ℕ → List ℕ → List ℕ → Tree h × List ℕ × List ℕ
-  started l ls free = hangs fan h ls (chain h (replicate l 0) free .1) (chain h (replicate l 0) free .0)
+  started l ls free = hangs fan h ls (chain h (replicate l 0) free .free) (chain h (replicate l 0) free .made)
 
   -- the last child is filled, then new children come
   abbrev Rows : List ℕ → Type 0
@@ -87,13 +87,13 @@ module _ (fan h : ℕ) where
 
   -- a leaf goes to the last child if that has room
   pub hang-deeper : (d free : List ℕ) (s : ℕ) (xs : List (Tree h)) (x : Tree h) → roomy fan h x ≡ true
-      → hang fan (suc h) d free (s, xs ++ x ∷ []) ≡ ((s, xs ++ hang fan h d free x .0 ∷ []), hang fan h d free x .1)
+      → hang fan (suc h) d free (s, xs ++ x ∷ []) ≡ record { made = (s, xs ++ hang fan h d free x .made ∷ []); free = hang fan h d free x .free }
   unfolding hang pick
   hang-deeper d free s xs x e = rw (ofLast-snoc (roomy fan h) xs x, e, onLast-snoc)
 
   -- and else beside it
   pub hang-here : (d free : List ℕ) (s : ℕ) (xs : List (Tree h)) (x : Tree h) → roomy fan h x ≡ false
-      → hang fan (suc h) d free (s, xs ++ x ∷ []) ≡ ((s, (xs ++ x ∷ []) ++ chain h d free .0 ∷ []), chain h d free .1)
+      → hang fan (suc h) d free (s, xs ++ x ∷ []) ≡ record { made = (s, (xs ++ x ∷ []) ++ chain h d free .made ∷ []); free = chain h d free .free }
   unfolding hang pick
   hang-here d free s xs x e = rw (ofLast-snoc (roomy fan h) xs x, e)
 
@@ -170,8 +170,8 @@ whole fan (suc h) l ls free =
     let f : List ℕ = drop 1 free in
     rw (
       rowOf-more (fresh (suc fan) h) fan l ls f (whole fan h l ls f),
-      row-is (suc fan) h (whole fan h) ls (chain h (replicate l 0) f .1)
-          (getD free 0 past) [] (chain h (replicate l 0) f .0),
+      row-is (suc fan) h (whole fan h) ls (chain h (replicate l 0) f .free)
+          (getD free 0 past) [] (chain h (replicate l 0) f .made),
     )
     (sym (row-first fan h (getD free 0 past) (started (suc fan) h l ls f) refl))
 
@@ -182,7 +182,7 @@ filled-none fan h [] free s = rw (rowOf-none (fresh (suc fan) h) (suc fan - 0) f
 filled-none fan h (k ∷ ls) free s =
     let z : suc fan - 0 ≡ suc fan = omega arith in
     rw (z, rowOf-more (fresh (suc fan) h) fan k ls free (whole fan h k ls free), lt-ltb 0 (suc fan) (omega arith))
-    (sym (row-is (suc fan) h (whole fan h) ls (chain h (replicate k 0) free .1) s [] (chain h (replicate k 0) free .0)
+    (sym (row-is (suc fan) h (whole fan h) ls (chain h (replicate k 0) free .free) s [] (chain h (replicate k 0) free .made)
     ∙ row-first fan h s (started (suc fan) h k ls free) refl))
 
 -- so a row is filled by hanging

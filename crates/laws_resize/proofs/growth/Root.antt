@@ -76,12 +76,12 @@ some-room fan (suc h) t r e =
     go zero zero em el last ih = absurd (omega (arith, e .room, ap (λ n. n * fan ^ h) em))
 
 -- a new chain has room for all but its one leaf
-chain-room : (fan h : ℕ) → 1 ≤ fan → (d free : List ℕ) → Room fan h (chain h d free .0) (fan ^ h - 1)
+chain-room : (fan h : ℕ) → 1 ≤ fan → (d free : List ℕ) → Room fan h (chain h d free .made) (fan ^ h - 1)
 unfolding chain
 chain-room fan zero one d free = rw pow-zero
 chain-room fan (suc h) one d free = record {
   front = [];
-  end = chain h d (drop 1 free) .0;
+  end = chain h d (drop 1 free) .made;
   left = fan ^ h - 1;
   split = refl;
   full = tt;
@@ -96,13 +96,13 @@ some-places zero each left r l e = absurd (omega arith)
 some-places (suc m) each left r l e = omega arith
 
 -- a leaf more takes one of the room
-hang-keeps : (fan h : ℕ) → 1 ≤ fan → (d free : List ℕ) (t : Tree h) (r : ℕ) → Room fan h t (suc r) → Room fan h (hang fan h d free t .0) r
+hang-keeps : (fan h : ℕ) → 1 ≤ fan → (d free : List ℕ) (t : Tree h) (r : ℕ) → Room fan h t (suc r) → Room fan h (hang fan h d free t .made) r
 unfolding hang pick
 hang-keeps fan zero one d free t r e = absurd (omega arith)
 hang-keeps fan (suc h) one d free t r e = go (e .left) refl (e .last) (hang-keeps fan h one d free (e .end))
   where
-    go : (l : ℕ) → e .left ≡ l → Room fan h (e .end) l → ((r : ℕ) → Room fan h (e .end) (suc r) → Room fan h (hang fan h d free (e .end) .0) r)
-        → Room fan (suc h) (hang fan (suc h) d free t .0) r
+    go : (l : ℕ) → e .left ≡ l → Room fan h (e .end) l → ((r : ℕ) → Room fan h (e .end) (suc r) → Room fan h (hang fan h d free (e .end) .made) r)
+        → Room fan (suc h) (hang fan (suc h) d free t .made) r
     go zero el last ih =
         rw (e .split, hang-here fan h d free (t .0) (e .front) (e .end) (no-room fan h one (e .end) last))
         (let p : 1 ≤ fan - suc (length (e .front)) = some-places (fan - suc (length (e .front))) (fan ^ h) (e .left) r el (e .room) in
@@ -110,7 +110,7 @@ hang-keeps fan (suc h) one d free t r e = go (e .left) refl (e .last) (hang-keep
         let z : fan - suc (length (e .front)) ≡ suc (fan - suc (length (e .front ++ e .end ∷ []))) = omega arith in
         record {
           front = e .front ++ e .end ∷ [];
-          end = chain h d free .0;
+          end = chain h d free .made;
           left = fan ^ h - 1;
           split = refl;
           full = every-snoc (λ x. Room fan h x 0) (e .front) (e .end) (e .full) last;
@@ -122,7 +122,7 @@ hang-keeps fan (suc h) one d free t r e = go (e .left) refl (e .last) (hang-keep
         rw (e .split, hang-deeper fan h d free (t .0) (e .front) (e .end) (some-room fan h (e .end) l last))
         (record {
           front = e .front;
-          end = hang fan h d free (e .end) .0;
+          end = hang fan h d free (e .end) .made;
           left = l;
           split = refl;
           full = e .full;
@@ -164,7 +164,7 @@ blob h t = record { height = h; tree = t }
 module _ (fan : ℕ) (two : 2 ≤ fan) where
   -- with room the leaf is hung; with none the root is raised first
   add-wide : (h : ℕ) (d free : List ℕ) (t : Tree h) (r : ℕ) → Room fan h t (suc r)
-      → addLeaf fan d (blob h t) free ≡ (blob h (hang fan h d free t .0), hang fan h d free t .1)
+      → addLeaf fan d (blob h t) free ≡ record { made = blob h (hang fan h d free t .made); free = hang fan h d free t .free }
   unfolding addLeaf pick leavesOf hang
   add-wide h d free t r e = rw (ne-eqb (length (leaves h t)) (fan ^ h) (λ q. omega (arith, count-room fan h t (suc r) e)))
 
@@ -194,9 +194,9 @@ module _ (fan : ℕ) (two : 2 ≤ fan) where
       let z = hangs-none fan h l ls free t (no-room fan h (omega arith) t e) in
       record { same = rw z; rest = rw z (omega arith); room = rw (z, zero-sub) e }
   add-filled h (l ∷ ls) free t (suc r) e =
-      let a : Tree h × List ℕ = hang fan h (replicate l 0) free t in
+      let a = hang fan h (replicate l 0) free t in
       let z = hangs-room fan h l ls free t (some-room fan h t r e) in
-      let f = add-filled h ls (a .1) (a .0) r (hang-keeps fan h (omega arith) (replicate l 0) free t r e) in
+      let f = add-filled h ls (a .free) (a .made) r (hang-keeps fan h (omega arith) (replicate l 0) free t r e) in
       record {
         same = rw (z, add-wide h (replicate l 0) free t r e) (f .same);
         rest = rw z (omega (arith, f .rest));

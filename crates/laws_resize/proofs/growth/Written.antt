@@ -21,16 +21,16 @@ use Rattle.laws_resize.specs.growth.Cuts.{rewritten, written}
 use Rattle.laws_resize.proofs.growth.Sites.{ruled-append, held-ruled, site-slots}
 
 -- a row of trees that each leave what is past their content leaves what is past all of it
-row-left : (h : ℕ) → ((d : List ℕ) (t : Tree h) → refill h d t .1 ≡ drop (length (content h t)) d) → (d : List ℕ) (ts : List (Tree h))
-    → along (refill h) d ts .1 ≡ drop (length (joined (map (content h) ts))) d
+row-left : (h : ℕ) → ((d : List ℕ) (t : Tree h) → refill h d t .left ≡ drop (length (content h t)) d) → (d : List ℕ) (ts : List (Tree h))
+    → along (refill h) d ts .left ≡ drop (length (joined (map (content h) ts))) d
 unfolding along joined
 row-left h each d [] = refl
 row-left h each d (t ∷ ts) =
-    row-left h each (refill h d t .1) ts
+    row-left h each (refill h d t .left) ts
     ∙ rw (each d t, drop-drop, length-append)
 
 -- a tree takes as many bytes as it holds
-pub refill-left : (h : ℕ) (d : List ℕ) (t : Tree h) → refill h d t .1 ≡ drop (length (content h t)) d
+pub refill-left : (h : ℕ) (d : List ℕ) (t : Tree h) → refill h d t .left ≡ drop (length (content h t)) d
 unfolding refill content
 refill-left zero d t = refl
 refill-left (suc h) d t = row-left h (refill-left h) d (t .1)
@@ -38,9 +38,9 @@ refill-left (suc h) d t = row-left h (refill-left h) d (t .1)
 module _ (e : Edition) (some : 1 ≤ e .leaf) (two : 2 ≤ e .fan) (d : List ℕ) where
   -- trees side by side, the first of which begins with leaf i
   row-written : (h : ℕ) → ((i : ℕ) (root edge : Bool) (t : Tree h) → ShapedTree e h root edge t
-      → cells h (refill h (drop (e .leaf * i) d) t .0) ≡ ruled (written e d) (sites h i t))
+      → cells h (refill h (drop (e .leaf * i) d) t .made) ≡ ruled (written e d) (sites h i t))
       → (i : ℕ) (edge : Bool) (ts : List (Tree h)) → InRow (ShapedTree e h false) edge ts
-      → joined (map (cells h) (along (refill h) (drop (e .leaf * i) d) ts .0))
+      → joined (map (cells h) (along (refill h) (drop (e .leaf * i) d) ts .made))
       ≡ ruled (written e d) (counting (λ x. length (leaves h x)) (sites h) i ts)
   unfolding InRow along joined counting ruled OfTree
   row-written h each i edge [] r = refl
@@ -49,17 +49,17 @@ module _ (e : Edition) (some : 1 ≤ e .leaf) (two : 2 ≤ e .fan) (d : List ℕ
       let full = tree-counted e some two h false t (r .0) .full refl in
       let n : e .leaf * i + length (content h t) ≡ e .leaf * (i + length (leaves h t)) =
       omega (arith, full .1, mul-add (e .leaf) i (length (leaves h t))) in
-      let past : refill h (drop (e .leaf * i) d) t .1 ≡ drop (e .leaf * (i + length (leaves h t))) d =
+      let past : refill h (drop (e .leaf * i) d) t .left ≡ drop (e .leaf * (i + length (leaves h t))) d =
       refill-left h (drop (e .leaf * i) d) t ∙ drop-drop (length (content h t)) (e .leaf * i) d
       ∙ ap (λ (n : ℕ). drop n d) n in
       ap₂ _++_ (each i false false t (r .0))
-      (ap (λ (x : List ℕ). joined (map (cells h) (along (refill h) x (u ∷ us) .0))) past
+      (ap (λ (x : List ℕ). joined (map (cells h) (along (refill h) x (u ∷ us) .made))) past
       ∙ row-written h each (i + length (leaves h t)) edge (u ∷ us) (r .1))
       ∙ sym (ruled-append (written e d) (sites h i t) _)
 
   -- a tree that begins with leaf i
   tree-written : (h i : ℕ) (root edge : Bool) (t : Tree h) → ShapedTree e h root edge t
-      → cells h (refill h (drop (e .leaf * i) d) t .0) ≡ ruled (written e d) (sites h i t)
+      → cells h (refill h (drop (e .leaf * i) d) t .made) ≡ ruled (written e d) (sites h i t)
   unfolding ShapedTree cells refill sites ruled written rewritten entry part
   tree-written zero i root edge t s = refl
   tree-written (suc h) i root edge t s =

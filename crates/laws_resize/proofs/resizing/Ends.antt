@@ -9,7 +9,7 @@ use lib.ListN.{length, length-append}
 use Rattle.meaning.specs.declared.Edition.{Edition}
 use Rattle.meaning.specs.Lists.{pick, joined, ofLast, mapLast}
 use Rattle.meaning.specs.Shape.{leastCount, InRow}
-use Rattle.meaning.specs.Resize.{onLast}
+use Rattle.meaning.specs.Resize.{Grown, onLast}
 use Rattle.laws.proofs.Positions.{row-append}
 
 -- a claim of each front with a last is one of each list that is not empty
@@ -43,8 +43,8 @@ mapLast-length f (x ∷ []) = refl
 mapLast-length f (x ∷ (y ∷ l)) = ap suc (mapLast-length f (y ∷ l))
 
 -- the last one changed, with the free slots left
-pub onLast-snoc : {A : Type 0} (f : A → A × List ℕ) (l : List A) (x : A) (free : List ℕ)
-    → onLast f (l ++ (x ∷ [])) free ≡ (l ++ (f x .0 ∷ []), f x .1)
+pub onLast-snoc : {A : Type 0} (f : A → Grown A) (l : List A) (x : A) (free : List ℕ)
+    → onLast f (l ++ (x ∷ [])) free ≡ record { made = l ++ (f x .made ∷ []); free = f x .free }
 unfolding onLast
 onLast-snoc f [] x free = refl
 onLast-snoc f (y ∷ []) x free = refl

@@ -14,7 +14,7 @@ use Rattle.meaning.specs.declared.Edition.{Edition}
 use Rattle.meaning.specs.Lists.{pick, joined, ofLast}
 use Rattle.meaning.specs.Tree.{Tree, slotOf, atSlot, content, leaves}
 use Rattle.meaning.specs.Shape.{leastCount, mostCount, InRow, ShapedTree}
-use Rattle.meaning.specs.Resize.{lowest, chain, onLast, roomy, hang}
+use Rattle.meaning.specs.Resize.{Grown, lowest, chain, onLast, roomy, hang}
 use Rattle.laws.proofs.Shapes.{OfRow, row-counted}
 use Rattle.laws_resize.proofs.resizing.Ends.{by-last, length-snoc, joined-snoc, onLast-snoc, ofLast-snoc, row-snoc, row-apart, some-child}
 use Rattle.laws_resize.proofs.resizing.SlotCounts.{slots, slots-leaf, slots-inner, row-size, row-times, times}
@@ -39,33 +39,33 @@ moved-roomy fan zero s t = refl
 moved-roomy fan (suc h) s t = refl
 
 -- a chain takes a slot for each height
-chain-size : (h : ℕ) (d free : List ℕ) → length (slots h (chain h d free .0)) ≡ suc h
+chain-size : (h : ℕ) (d free : List ℕ) → length (slots h (chain h d free .made)) ≡ suc h
 unfolding chain joined
 chain-size zero d free = rw slots-leaf
 chain-size (suc h) d free =
-    rw (slots-inner h _ _, append-nil (slots h (chain h d (drop 1 free) .0))) (ap suc (chain-size h d (drop 1 free)))
+    rw (slots-inner h _ _, append-nil (slots h (chain h d (drop 1 free) .made))) (ap suc (chain-size h d (drop 1 free)))
 
 -- the first free ones
-chain-slots : (h : ℕ) (d free : List ℕ) → suc h ≤ length free → slots h (chain h d free .0) ≡ take (suc h) free
+chain-slots : (h : ℕ) (d free : List ℕ) → suc h ≤ length free → slots h (chain h d free .made) ≡ take (suc h) free
 unfolding chain joined lowest
 chain-slots zero d [] some = absurd (omega arith)
 chain-slots zero d (x ∷ free) some = slots-leaf (x, d)
 chain-slots (suc h) d [] some = absurd (omega arith)
 chain-slots (suc h) d (x ∷ free) some =
-    slots-inner h x (chain h d free .0 ∷ []) ∙ rw (append-nil (slots h (chain h d free .0)), chain-slots h d free (omega arith))
+    slots-inner h x (chain h d free .made ∷ []) ∙ rw (append-nil (slots h (chain h d free .made)), chain-slots h d free (omega arith))
 
 -- and leaves the others
-chain-rest : (h : ℕ) (d free : List ℕ) → chain h d free .1 ≡ drop (suc h) free
+chain-rest : (h : ℕ) (d free : List ℕ) → chain h d free .free ≡ drop (suc h) free
 unfolding chain
 chain-rest zero d free = refl
 chain-rest (suc h) d [] = chain-rest h d []
 chain-rest (suc h) d (x ∷ free) = chain-rest h d free
 
 -- a chain's bytes are its leaf's
-chain-content : (h : ℕ) (d free : List ℕ) → content h (chain h d free .0) ≡ d
+chain-content : (h : ℕ) (d free : List ℕ) → content h (chain h d free .made) ≡ d
 unfolding chain content joined
 chain-content zero d free = refl
-chain-content (suc h) d free = append-nil (content h (chain h d (drop 1 free) .0)) ∙ chain-content h d (drop 1 free)
+chain-content (suc h) d free = append-nil (content h (chain h d (drop 1 free) .made)) ∙ chain-content h d (drop 1 free)
 
 -- neither test holds
 pick-false : (a b : Bool) → pick a true b ≡ false → (a ≡ false) × (b ≡ false)
@@ -104,23 +104,23 @@ room-some false n m r le ne = absurd (ne (omega arith))
 
 -- a hang at the last child
 hang-deep : (fan h r : ℕ) (d free : List ℕ) (ts : List (Tree h)) → ofLast (roomy fan h) ts ≡ true
-    → hang fan (suc h) d free (r, ts) ≡ ((r, onLast (hang fan h d free) ts free .0), onLast (hang fan h d free) ts free .1)
+    → hang fan (suc h) d free (r, ts) ≡ record { made = (r, onLast (hang fan h d free) ts free .made); free = onLast (hang fan h d free) ts free .free }
 unfolding hang pick
 hang-deep fan h r d free ts on = rw on
 
 -- or behind it
 hang-broad : (fan h r : ℕ) (d free : List ℕ) (ts : List (Tree h)) → ofLast (roomy fan h) ts ≡ false
-    → hang fan (suc h) d free (r, ts) ≡ ((r, ts ++ (chain h d free .0 ∷ [])), chain h d free .1)
+    → hang fan (suc h) d free (r, ts) ≡ record { made = (r, ts ++ (chain h d free .made ∷ [])); free = chain h d free .free }
 unfolding hang pick
 hang-broad fan h r d free ts off = rw off
 
 -- the root stays in its slot
-pub hang-slot : (fan h : ℕ) (d free : List ℕ) (t : Tree h) → slotOf h (hang fan h d free t .0) ≡ slotOf h t
+pub hang-slot : (fan h : ℕ) (d free : List ℕ) (t : Tree h) → slotOf h (hang fan h d free t .made) ≡ slotOf h t
 unfolding hang slotOf pick
 hang-slot fan zero d free t = refl
 hang-slot fan (suc h) d free t = by (ofLast (roomy fan h) (t .1)) refl
   where
-    by : (b : Bool) → ofLast (roomy fan h) (t .1) ≡ b → slotOf (suc h) (hang fan (suc h) d free t .0) ≡ t .0
+    by : (b : Bool) → ofLast (roomy fan h) (t .1) ≡ b → slotOf (suc h) (hang fan (suc h) d free t .made) ≡ t .0
     by true is = rw is
     by false is = rw is
 
@@ -130,7 +130,7 @@ module _ (e : Edition) (some : 1 ≤ e .leaf) (two : 2 ≤ e .fan) where
   Full h t = length (content h t) ≡ e .leaf * length (leaves h t)
 
   -- a chain is shaped as a tree on the edge
-  chain-shaped : (h : ℕ) (d free : List ℕ) → 1 ≤ length d → length d ≤ e .leaf → ShapedTree e h false true (chain h d free .0)
+  chain-shaped : (h : ℕ) (d free : List ℕ) → 1 ≤ length d → length d ≤ e .leaf → ShapedTree e h false true (chain h d free .made)
   unfolding chain ShapedTree leastCount mostCount pick InRow
   chain-shaped zero d free low high = (low, high)
   chain-shaped (suc h) d free low high = (omega arith, omega arith, chain-shaped h d (drop 1 free) low high)
@@ -222,10 +222,10 @@ module _ (e : Edition) (some : 1 ≤ e .leaf) (two : 2 ≤ e .fan) where
       )
 
   -- a leaf with such bytes is hung in a tree
-  pub record Hung (h : ℕ) (root : Bool) (d free : List ℕ) (t : Tree h) (new : Tree h × List ℕ) : Type 0 where
-    pub shaped : ShapedTree e h root true (new .0)
-    pub bytes : content h (new .0) ≡ content h t ++ d
-    pub grows : Grows free (slots h t) (slots h (new .0)) (new .1)
+  pub record Hung (h : ℕ) (root : Bool) (d free : List ℕ) (t : Tree h) (new : Grown (Tree h)) : Type 0 where
+    pub shaped : ShapedTree e h root true (new .made)
+    pub bytes : content h (new .made) ≡ content h t ++ d
+    pub grows : Grows free (slots h t) (slots h (new .made)) (new .free)
 
   module _ (d free : List ℕ) (low : 1 ≤ length d) (high : length d ≤ e .leaf) where
     -- behind a row of full trees
@@ -233,7 +233,7 @@ module _ (e : Edition) (some : 1 ≤ e .leaf) (two : 2 ≤ e .fan) where
         → length ts < e .fan → leastCount e (suc h) true root ≤ suc (length ts) → Hung (suc h) root d free (r, ts) (hang (e .fan) (suc h) d free (r, ts))
     unfolding ShapedTree mostCount content
     hung-broad h root r ts off row room fits =
-        let new = chain h d free .0 in
+        let new = chain h d free .made in
         rw (hang-broad (e .fan) h r d free ts off) (record {
           shaped = (
             rw (length-snoc ts new) fits,
@@ -268,8 +268,8 @@ module _ (e : Edition) (some : 1 ≤ e .leaf) (two : 2 ≤ e .fan) where
         by front x s room f true is =
             let a = row-apart (ShapedTree e h false) true front x (s .2) in
             let g = each false x (a .1) is (full-last h front x (a .0) f) in
-            let u = hang (e .fan) h d free x .0 in
-            let now : hang (e .fan) (suc h) d free (r, front ++ (x ∷ [])) ≡ ((r, front ++ (u ∷ [])), hang (e .fan) h d free x .1) =
+            let u = hang (e .fan) h d free x .made in
+            let now : hang (e .fan) (suc h) d free (r, front ++ (x ∷ [])) ≡ record { made = (r, front ++ (u ∷ [])); free = hang (e .fan) h d free x .free } =
             hang-deep (e .fan) h r d free (front ++ (x ∷ [])) (ofLast-snoc (roomy (e .fan) h) front x ∙ is)
             ∙ rw (onLast-snoc (hang (e .fan) h d free) front x free) in
             rw now (record {

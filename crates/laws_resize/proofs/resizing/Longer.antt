@@ -54,7 +54,7 @@ module _ (e : Edition) (some : 1 ≤ e .leaf) (two : 2 ≤ e .fan) where
     -- a leaf added under a new root row
     added-tall : (h : ℕ) (t : Tree h) (free : List ℕ) → ShapedTree e h true true t → Full e some two h t → roomy (e .fan) h t ≡ false
         → let new = hang (e .fan) (suc h) d (drop 1 free) (raised h free t) in
-        Longer e d free (record { height = h; tree = t }) (record { height = suc h; tree = new .0 }) (new .1)
+        Longer e d free (record { height = h; tree = t }) (record { height = suc h; tree = new .made }) (new .free)
     unfolding Whole Shaped rootOf contentOf raised content joined ofLast InRow leastCount pick slotOf
     added-tall h t free s f off =
         let moved = atSlot h (lowest free) t in
@@ -69,7 +69,7 @@ module _ (e : Edition) (some : 1 ≤ e .leaf) (two : 2 ≤ e .fan) where
 
     -- a leaf added to a blob whose leaves are full
     added : (b : Blob) (free : List ℕ) → Shaped e b → lengthOf b ≡ e .leaf * length (leavesOf b)
-        → Longer e d free b (addLeaf (e .fan) d b free .0) (addLeaf (e .fan) d b free .1)
+        → Longer e d free b (addLeaf (e .fan) d b free .made) (addLeaf (e .fan) d b free .free)
     unfolding addLeaf Shaped Full lengthOf contentOf leavesOf rootOf pick Told Hangs
     added b free s f = by (ℕ-discrete (length (leaves h t)) (e .fan ^ h))
       where
@@ -86,7 +86,7 @@ module _ (e : Edition) (some : 1 ≤ e .leaf) (two : 2 ≤ e .fan) where
           ap (λ (x : ℕ). e .fan ^ x) (shaped-height e some two b s),
         )
 
-        by : Dec (length (leaves h t) ≡ e .fan ^ h) → Longer e d free b (addLeaf (e .fan) d b free .0) (addLeaf (e .fan) d b free .1)
+        by : Dec (length (leaves h t) ≡ e .fan ^ h) → Longer e d free b (addLeaf (e .fan) d b free .made) (addLeaf (e .fan) d b free .free)
         by (yes p) = rw (eq-eqb _ _ p) (added-tall h t free s f (room-none _ _ _ (told e some two h true t s) p))
         by (no p) =
             let g = hangs e some two d free low high h true t s (room-some _ _ _ (told e some two h true t s) fits p) f in
@@ -136,12 +136,12 @@ module _ (e : Edition) (some : 1 ≤ e .leaf) (two : 2 ≤ e .fan) where
       let long : length d ≡ m = length-replicate m 0 in
       let below : e .leaf * n ≤ e .leaf * (n + k) = mul-le-mul-left (e .leaf) (omega arith) in
       let one = added d (omega (arith, now .1)) (omega arith) b free s (filled-full b n s has (now .0)) in
-      let b′ = addLeaf (e .fan) d b free .0 in
+      let b′ = addLeaf (e .fan) d b free .made in
       let next : 1 ≤ k → (lengthOf b′ ≡ e .leaf * suc n) × (e .leaf * (suc n + k) < len + e .leaf) =
       (λ more.
       let wide : e .leaf * suc n ≤ e .leaf * (n + k) = mul-le-mul-left (e .leaf) (omega arith) in
       (ap length (one .bytes) ∙ length-append (contentOf b) d ∙ omega (arith, now .0, now .1), omega (arith, now .1))) in
-      let rest = adds len k (suc n) b′ (addLeaf (e .fan) d b free .1) (one .shaped) (omega arith) (omega arith) next in
+      let rest = adds len k (suc n) b′ (addLeaf (e .fan) d b free .free) (one .shaped) (omega arith) (omega arith) next in
       added-then m (len - e .leaf * suc n) (len - e .leaf * n) free b b′ _ _ (omega arith) one rest
 
   module _ (b : Blob) (s : Shaped e b) (len : ℕ) (more : lengthOf b ≤ len) (free : List ℕ) where

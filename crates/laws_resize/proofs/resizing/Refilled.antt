@@ -14,7 +14,7 @@ use Rattle.meaning.specs.Lists.{pick, joined}
 use Rattle.meaning.specs.Bytes.{Cell}
 use Rattle.meaning.specs.Tree.{Tree, Blob, slotOf, content, leaves, cells, rootOf, contentOf, leavesOf, cellsOf, slotsOf, lengthOf, just, held}
 use Rattle.meaning.specs.Shape.{InRow, ShapedTree, Shaped}
-use Rattle.meaning.specs.Resize.{along, refill, refilled}
+use Rattle.meaning.specs.Resize.{Spread, along, refill, refilled}
 use Rattle.laws.proofs.Inversions.{by-test}
 use Rattle.laws.proofs.Shapes.{blank, blank-same}
 use Rattle.laws.proofs.Walked.{leafSlots}
@@ -51,20 +51,20 @@ held-inner (x ∷ xs) (y ∷ ys) same s c there inner =
     (λ t. rw t (held-inner xs ys rest s c (rw t at there) inner)))
 
 -- a tree takes its bytes from the front of d, and leaves the rest
-unfoldable Taken : (h : ℕ) → Tree h → List ℕ → Tree h × List ℕ → Type 0
+unfoldable Taken : (h : ℕ) → Tree h → List ℕ → Spread (Tree h) → Type 0
 Taken h t d new =
     let size = length (content h t) in
-    (content h (new .0) ≡ take size d) × (new .1 ≡ drop size d)
+    (content h (new .made) ≡ take size d) × (new .left ≡ drop size d)
 
 -- a row too
 taken-row : (h : ℕ) → ((d : List ℕ) (t : Tree h) → Taken h t d (refill h d t)) → (d : List ℕ) (ts : List (Tree h))
     → let size = length (joined (map (content h) ts)) in
-    (joined (map (content h) (along (refill h) d ts .0)) ≡ take size d) × (along (refill h) d ts .1 ≡ drop size d)
+    (joined (map (content h) (along (refill h) d ts .made)) ≡ take size d) × (along (refill h) d ts .left ≡ drop size d)
 unfolding Taken along joined
 taken-row h each d [] = (refl, refl)
 taken-row h each d (t ∷ ts) =
     let a = each d t in
-    let r = taken-row h each (refill h d t .1) ts in
+    let r = taken-row h each (refill h d t .left) ts in
     let m = length (content h t) in
     let n = length (joined (map (content h) ts)) in
     let l = length-append (content h t) (joined (map (content h) ts)) in (
@@ -79,44 +79,44 @@ taken zero d t = (refl, refl)
 taken (suc h) d t = taken-row h (taken h) d (t .1)
 
 -- what a tree leaves of d is long enough for the trees after it
-left-enough : (h : ℕ) (d : List ℕ) (t : Tree h) (n : ℕ) → length (content h t) + n ≤ length d → n ≤ length (refill h d t .1)
+left-enough : (h : ℕ) (d : List ℕ) (t : Tree h) (n : ℕ) → length (content h t) + n ≤ length d → n ≤ length (refill h d t .left)
 unfolding Taken
 left-enough h d t n fits = rw (taken h d t .1, length-drop) (omega arith)
 
 -- a row has as many trees as before
-along-length : {A : Type 0} (f : List ℕ → A → A × List ℕ) (d : List ℕ) (xs : List A) → length (along f d xs .0) ≡ length xs
+along-length : {A : Type 0} (f : List ℕ → A → Spread A) (d : List ℕ) (xs : List A) → length (along f d xs .made) ≡ length xs
 unfolding along
 along-length f d [] = refl
-along-length f d (x ∷ xs) = ap suc (along-length f (f d x .1) xs)
+along-length f d (x ∷ xs) = ap suc (along-length f (f d x .left) xs)
 
 -- the root of a tree stays in its slot
-pub refill-slot : (h : ℕ) (d : List ℕ) (t : Tree h) → slotOf h (refill h d t .0) ≡ slotOf h t
+pub refill-slot : (h : ℕ) (d : List ℕ) (t : Tree h) → slotOf h (refill h d t .made) ≡ slotOf h t
 unfolding refill slotOf
 refill-slot zero d t = refl
 refill-slot (suc h) d t = refl
 
 -- and so those of a row
-pub along-slots : (h : ℕ) (d : List ℕ) (ts : List (Tree h)) → map (slotOf h) (along (refill h) d ts .0) ≡ map (slotOf h) ts
+pub along-slots : (h : ℕ) (d : List ℕ) (ts : List (Tree h)) → map (slotOf h) (along (refill h) d ts .made) ≡ map (slotOf h) ts
 unfolding along
 along-slots h d [] = refl
-along-slots h d (t ∷ ts) = ap₂ {C = List ℕ} (λ x xs. x ∷ xs) (refill-slot h d t) (along-slots h (refill h d t .1) ts)
+along-slots h d (t ∷ ts) = ap₂ {C = List ℕ} (λ x xs. x ∷ xs) (refill-slot h d t) (along-slots h (refill h d t .left) ts)
 
 -- a tree keeps its shape
 unfoldable KeepsShape : Edition → ℕ → Bool → Type 0
 KeepsShape e h root = (edge : Bool) (d : List ℕ) (t : Tree h) → length (content h t) ≤ length d → ShapedTree e h root edge t
-    → ShapedTree e h root edge (refill h d t .0)
+    → ShapedTree e h root edge (refill h d t .made)
 
 -- a row, if each tree does
 shaped-row : (e : Edition) (h : ℕ) → KeepsShape e h false → (edge : Bool) (d : List ℕ) (ts : List (Tree h))
     → length (joined (map (content h) ts)) ≤ length d → InRow (ShapedTree e h false) edge ts
-    → InRow (ShapedTree e h false) edge (along (refill h) d ts .0)
+    → InRow (ShapedTree e h false) edge (along (refill h) d ts .made)
 unfolding KeepsShape along joined InRow
 shaped-row e h each edge d [] fits r = tt
 shaped-row e h each edge d (t ∷ []) fits r = each edge d t (omega (arith, length-append (content h t) [])) r
 shaped-row e h each edge d (t ∷ (u ∷ us)) fits r =
     let l = length-append (content h t) (joined (map (content h) (u ∷ us))) in (
       each false d t (omega arith) (r .0),
-      shaped-row e h each edge (refill h d t .1) (u ∷ us)
+      shaped-row e h each edge (refill h d t .left) (u ∷ us)
           (left-enough h d t (length (joined (map (content h) (u ∷ us)))) (omega arith)) (r .1),
     )
 
@@ -132,18 +132,18 @@ keeps-shape e (suc h) root edge d t fits s =
 
 -- a tree keeps its cells but for the leaves' bytes
 unfoldable KeepsCells : ℕ → Type 0
-KeepsCells h = (d : List ℕ) (t : Tree h) → length (content h t) ≤ length d → map hollow (cells h (refill h d t .0)) ≡ map hollow (cells h t)
+KeepsCells h = (d : List ℕ) (t : Tree h) → length (content h t) ≤ length d → map hollow (cells h (refill h d t .made)) ≡ map hollow (cells h t)
 
 -- a row, if each tree does
 cells-row : (h : ℕ) → KeepsCells h → (d : List ℕ) (ts : List (Tree h)) → length (joined (map (content h) ts)) ≤ length d
-    → map hollow (joined (map (cells h) (along (refill h) d ts .0))) ≡ map hollow (joined (map (cells h) ts))
+    → map hollow (joined (map (cells h) (along (refill h) d ts .made))) ≡ map hollow (joined (map (cells h) ts))
 unfolding KeepsCells along joined
 cells-row h each d [] fits = refl
 cells-row h each d (t ∷ ts) fits =
     let l = length-append (content h t) (joined (map (content h) ts)) in
-    map-append hollow (cells h (refill h d t .0)) (joined (map (cells h) (along (refill h) (refill h d t .1) ts .0)))
+    map-append hollow (cells h (refill h d t .made)) (joined (map (cells h) (along (refill h) (refill h d t .left) ts .made)))
     ∙ ap₂ _++_ (each d t (omega arith))
-    (cells-row h each (refill h d t .1) ts (left-enough h d t (length (joined (map (content h) ts))) (omega arith)))
+    (cells-row h each (refill h d t .left) ts (left-enough h d t (length (joined (map (content h) ts))) (omega arith)))
     ∙ sym (map-append hollow (cells h t) (joined (map (cells h) ts)))
 
 -- at every height
@@ -156,16 +156,16 @@ keeps-cells (suc h) d t fits = rw (along-slots h d (t .1), cells-row h (keeps-ce
 
 -- a tree's leaves stay in their slots
 unfoldable KeepsLeaves : ℕ → Type 0
-KeepsLeaves h = (d : List ℕ) (t : Tree h) → map (λ l. l .0) (leaves h (refill h d t .0)) ≡ map (λ l. l .0) (leaves h t)
+KeepsLeaves h = (d : List ℕ) (t : Tree h) → map (λ l. l .0) (leaves h (refill h d t .made)) ≡ map (λ l. l .0) (leaves h t)
 
 -- a row's, if each tree's do
 leaves-row : (h : ℕ) → KeepsLeaves h → (d : List ℕ) (ts : List (Tree h))
-    → map (λ l. l .0) (joined (map (leaves h) (along (refill h) d ts .0))) ≡ map (λ l. l .0) (joined (map (leaves h) ts))
+    → map (λ l. l .0) (joined (map (leaves h) (along (refill h) d ts .made))) ≡ map (λ l. l .0) (joined (map (leaves h) ts))
 unfolding KeepsLeaves along joined
 leaves-row h each d [] = refl
 leaves-row h each d (t ∷ ts) =
-    map-append (λ l. l .0) (leaves h (refill h d t .0)) (joined (map (leaves h) (along (refill h) (refill h d t .1) ts .0)))
-    ∙ ap₂ _++_ (each d t) (leaves-row h each (refill h d t .1) ts)
+    map-append (λ l. l .0) (leaves h (refill h d t .made)) (joined (map (leaves h) (along (refill h) (refill h d t .left) ts .made)))
+    ∙ ap₂ _++_ (each d t) (leaves-row h each (refill h d t .left) ts)
     ∙ sym (map-append (λ l. l .0) (leaves h t) (joined (map (leaves h) ts)))
 
 -- at every height
