@@ -1,6 +1,6 @@
 -- Each call's answer as the value that the code gives, and what this paper's number and values of it are.
 use mathlib.Core.Path.{_≡_}
-use mathlib.Core.List.{List, [], _∷_}
+use mathlib.Core.List.{List, [], _∷_, _++_}
 use Prim.Native.Nat.{ℕ, _+_, _*_}
 use Rattle.meaning.specs.Lists.{pick, part}
 use Rattle.meaning.specs.Refusals.{nowhere, slotNumber}
@@ -116,3 +116,8 @@ finishedSaid (finishedCase.Refused r) = refuses r
 unfoldable pub leafSaid : Leaf → Said
 leafSaid (leafCase.At start count) = yields (start ∷ count ∷ [])
 leafSaid (leafCase.Refused r) = refuses r
+
+-- the same, and after its values the bytes that the call hands out
+unfoldable pub saidWith : Said → (bytes : List ℕ) → Said
+saidWith (yields vs) bytes = yields (vs ++ bytes)
+saidWith (refuses r) bytes = refuses r

@@ -16,8 +16,9 @@ use Rattle.meaning.specs.Walk.{flaw, used, formed, blockCheck, isRoot, l
 use Rattle.meaning.specs.Change.{Store, put, puts, changedBy, freed, renewed, changed, changes}
 use Rattle.meaning.specs.Resize.{lowest, chain, onLast, roomy, hang, raised, addLeaf, addLeaves, lastLeaf, share, shares, lastBytes, longer, keepRow, keep, lower, shorter, resized, along, refill, refilled}
 use Rattle.meaning.specs.Calls.{refuseIf, afterCheck, slotsIn, sized, refuseBadRecord, opened, withBlob, usable, live, rooted, reading, changing, refuseWorn, refusePast, refuseFull, become, lengthOn, lengthIn, readOn, readIn, auditOn, auditIn, createOn, createIn, newBlocks, resizeOn, resizeIn, writeOn, writeIn, lengthCall, readCall, auditCall, createCall, writeCall, resizeCall, after, freeRecords, wiped}
-use Rattle.meaning.specs.Answers.{Said, yields, refuses}
-use Rattle.meaning.specs.Run.{Call, create, audit, write, resize, tellLength, read, saidBy, says, perform}
+use Rattle.meaning.specs.Answers.{Said, yields, refuses, lengthAnswer, auditAnswer, createAnswer, changeAnswer, finishAnswer, readOut}
+use Rattle.meaning.specs.Answers.{lengthSaid, auditSaid, createdSaid, changedSaid, finishedSaid, saidWith}
+use Rattle.meaning.specs.Run.{Call, create, audit, write, resize, tellLength, read, says, perform}
 use Rattle.meaning.specs.declared.Named.{Named}
 use Rattle.meaning.specs.declared.Named.the-variants.{Nowhere, Slot}
 
@@ -51,8 +52,8 @@ holds S s st version c =
     (sameList (block one (S .pool) s) (encoded one c s version))
 
 unfoldable pub true-of : Store → Fact → Bool
-true-of S (leaf s st version row) = holds S s st version (record { height = 0; items = row })
-true-of S (inner s st version height row) = holds S s st version (record { height = height; items = row })
+true-of S (leaf s st version items) = holds S s st version (record { height = 0; items = items })
+true-of S (inner s st version height items) = holds S s st version (record { height = height; items = items })
 true-of S (free s version) =
     both (sameList (recordAt (S .records) s) (recordOf 0 version)) (zeros (block one (S .pool) s))
 true-of S (whole pool records) = both (sameList (S .pool) pool) (sameList (S .records) records)
@@ -76,7 +77,7 @@ right (blocks len n) = eqb (total (one .fan) (leavesFor (one .leaf) len)) n
 right (script N steps) = played (wiped one N) steps
 right (refusal S call n s) = sameSaid (says one S call) (refuses (refusalOf n s))
 
--- the rows marked P, and the blob created in a wiped one-slot pool
+-- the cases marked P, and the blob created in a wiped one-slot pool
 unfoldable pub cases : List Case
 cases =
     blocks 0 1 ∷ blocks 48 1 ∷ blocks 49 3
@@ -205,5 +206,5 @@ refusals =
     ∷ []
 
 pub cases-hold : all right (cases ++ (worked ++ refusals)) ≡ true
-unfolding cases worked twelve refusals right played sameSaid true-of holds empty two beside one pick both part pasted joined range filter all ofLast mapLast only sameList zeros number bytes padded fours sameCell itemBytes header blockBytes encoded block heightOf countOf ownSlot versionOf dataOf childrenOf recordWith recordOf recordAt stateOf recordedOf state recorded soundRecord lastVersion usableSlot slotOf atSlot content leaves cells rootOf contentOf leavesOf cellsOf slotsOf lengthOf held up leavesFor totalWithin total leastCount mostCount refusalOf at nowhere must first flaw used formed blockCheck isRoot linkCheck andThen passing isEmpty oneVisit visitRow visit fromRoot roots closingCheck closing poolCheck put puts changedBy freed renewed changed changes lowest chain onLast roomy hang raised addLeaf addLeaves lastLeaf share shares lastBytes longer keepRow keep lower shorter resized refuseIf afterCheck slotsIn sized refuseBadRecord opened withBlob usable rooted changing refuseWorn refuseFull become createOn createIn newBlocks resizeOn resizeIn createCall resizeCall after freeRecords wiped saidBy says perform reading blobCheck lengthOn lengthIn refusePast readOn readIn live auditOn auditIn writeOn writeIn lengthCall readCall auditCall writeCall along refill refilled slotNumber
+unfolding cases worked twelve refusals right played sameSaid true-of holds empty two beside one pick both part pasted joined range filter all ofLast mapLast only sameList zeros number bytes padded fours sameCell itemBytes header blockBytes encoded block heightOf countOf ownSlot versionOf dataOf childrenOf recordWith recordOf recordAt stateOf recordedOf state recorded soundRecord lastVersion usableSlot slotOf atSlot content leaves cells rootOf contentOf leavesOf cellsOf slotsOf lengthOf held up leavesFor totalWithin total leastCount mostCount refusalOf at nowhere must first flaw used formed blockCheck isRoot linkCheck andThen passing isEmpty oneVisit visitRow visit fromRoot roots closingCheck closing poolCheck put puts changedBy freed renewed changed changes lowest chain onLast roomy hang raised addLeaf addLeaves lastLeaf share shares lastBytes longer keepRow keep lower shorter resized refuseIf afterCheck slotsIn sized refuseBadRecord opened withBlob usable rooted changing refuseWorn refuseFull become createOn createIn newBlocks resizeOn resizeIn createCall resizeCall after freeRecords wiped says createdSaid createAnswer auditSaid auditAnswer changedSaid changeAnswer lengthSaid lengthAnswer saidWith finishedSaid finishAnswer readOut perform reading blobCheck lengthOn lengthIn refusePast readOn readIn live auditOn auditIn writeOn writeIn lengthCall readCall auditCall writeCall along refill refilled slotNumber
 cases-hold = refl

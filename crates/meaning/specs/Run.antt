@@ -7,8 +7,9 @@ use lib.ListN.{getD}
 use Rattle.meaning.specs.Lists.{filter}
 use Rattle.meaning.specs.Shape.{leavesFor, total}
 use Rattle.meaning.specs.Change.{Store}
-use Rattle.meaning.specs.Calls.{Outcome, refused, done, after, afterWipe, lengthCall, readCall, showCall, auditCall, createCall, writeCall, resizeCall, deleteCall}
-use Rattle.meaning.specs.Answers.{Said, yields, refuses, shownPart}
+use Rattle.meaning.specs.Calls.{after, afterWipe, lengthCall, readCall, showCall, auditCall, createCall, writeCall, resizeCall, deleteCall}
+use Rattle.meaning.specs.Answers.{lengthAnswer, auditAnswer, createAnswer, changeAnswer, finishAnswer, leafAnswer, readOut, shownPart}
+use Rattle.meaning.specs.Answers.{Said, yields, refuses, lengthSaid, auditSaid, createdSaid, changedSaid, finishedSaid, leafSaid, saidWith}
 use Rattle.meaning.specs.declared.Edition.{Edition}
 
 -- the calls but wipe, with any arguments
@@ -20,22 +21,21 @@ pub data Call : Type 0 where
   read : (r offset size : ℕ) → Call
   showLeaf : (r k : ℕ) → Call
 
--- what an outcome says, given its values
-unfoldable pub saidBy : {A : Type 0} → (A → List ℕ) → Outcome A → Said
-saidBy values (refused r) = refuses r
-saidBy values (done a cs) = yields (values a)
-
--- each call's answer: a slot, a length, a count, the bytes read; of a leaf its slot, its count and the bytes shown
+-- What each call says: the number and values of its answer, by the maps of Answers. A read also says the bytes that it puts in the lent output;
+-- show, beside where in the pool the leaf's data bytes start and how many they are, the bytes shown.
 unfoldable pub says : Edition → Store → Call → Said
-says e S create = saidBy (λ s. s ∷ []) (createCall e (S .pool) (S .records))
-says e S audit = saidBy (λ n. n ∷ []) (auditCall e (S .pool) (S .records))
-says e S (write r offset d) = saidBy (λ v. []) (writeCall e (S .pool) (S .records) r offset d)
-says e S (resize r len) = saidBy (λ v. []) (resizeCall e (S .pool) (S .records) r len)
-says e S (delete r) = saidBy (λ v. []) (deleteCall e (S .pool) (S .records) r)
-says e S (tellLength r) = saidBy (λ n. n ∷ []) (lengthCall e (S .pool) (S .records) r)
-says e S (read r offset size) = saidBy (λ d. d) (readCall e (S .pool) (S .records) r offset size)
+says e S create = createdSaid (createAnswer (createCall e (S .pool) (S .records)))
+says e S audit = auditSaid (auditAnswer (auditCall e (S .pool) (S .records)))
+says e S (write r offset d) = changedSaid (changeAnswer (writeCall e (S .pool) (S .records) r offset d))
+says e S (resize r len) = changedSaid (changeAnswer (resizeCall e (S .pool) (S .records) r len))
+says e S (delete r) = changedSaid (changeAnswer (deleteCall e (S .pool) (S .records) r))
+says e S (tellLength r) = lengthSaid (lengthAnswer (lengthCall e (S .pool) (S .records) r))
+says e S (read r offset size) =
+    let o = readCall e (S .pool) (S .records) r offset size in
+    saidWith (finishedSaid (finishAnswer o)) (readOut o [])
 says e S (showLeaf r k) =
-    saidBy (λ v. v .0 ∷ v .1 ∷ shownPart e (S .pool) (done v [])) (showCall e (S .pool) (S .records) r k)
+    let o = showCall e (S .pool) (S .records) r k in
+    saidWith (leafSaid (leafAnswer e o)) (shownPart e (S .pool) o)
 
 -- the store after a call
 unfoldable pub perform : Edition → Store → Call → Store

@@ -7,8 +7,7 @@ use Prim.Native.Nat.{ℕ, _+_, _/_, _≤_, _<_}
 use native.Mathlib.Omega.{arith}
 use borrow.Author.Tests.{ltb-false, eq-eqb, lt-ltb}
 use lib.Dec.{eqb, ltb}
-use lib.ListN.{take}
-use lib.ListN as list
+use lib.ListN.{length, take}
 use Rattle.meaning.specs.declared.Edition.{Edition}
 use Rattle.meaning.specs.Lists.{pick, pasted, padded}
 use Rattle.meaning.specs.Edition.{Proper}
@@ -38,7 +37,8 @@ use Rattle.laws_sound.proofs.again.Outcomes.{Opens, opened-done, afterCheck-don
 use Rattle.laws_sound.proofs.again.Done.{emptyBlob, create-done, delete-done, among-others}
 use Rattle.laws_sound.proofs.again.Turned as again
 use Rattle.laws_sound.proofs.again.Turned.{write-done, resize-done}
-use Rattle.promises.proofs.Stores.{said-done, good-is, pool-is}
+use Rattle.promises.proofs.Said.{oneNumber, noNumber, said-done, says-create, says-write, says-resize, says-delete}
+use Rattle.promises.proofs.Stores.{good-is, pool-is}
 use Rattle.promises.specs.Demands.{slotsAt, freeAt, newAt, Turns, Passes, Became, Freed}
 
 -- cells that are found other are other
@@ -73,7 +73,7 @@ all-turn e S S′ taken old new l q x low =
     (then-record e (slotsAt e S) S taken (held old) (held new) (l .whole) (l .lines) x low))
 
 -- some slots of which the lowest is s
-first-free : (l : List ℕ) (s : ℕ) → 1 ≤ list.length l → lowest l ≡ s → (rest : List ℕ) × (l ≡ s ∷ rest)
+first-free : (l : List ℕ) (s : ℕ) → 1 ≤ length l → lowest l ≡ s → (rest : List ℕ) × (l ≡ s ∷ rest)
 unfolding lowest
 first-free [] s h q = absurd (omega arith)
 first-free (x ∷ l) s h q = (l, ap (λ (y : ℕ). y ∷ l) q)
@@ -97,18 +97,18 @@ module _ (e : Edition) (p : Proper e) (S : Store) where
   pub create-turns : (s : ℕ) → says e S create ≡ yields (s ∷ [])
       → (b : Blob) × (rest : List ℕ) × (freeAt e S ≡ s ∷ rest) × (rootOf b ≡ s) × (contentOf b ≡ [])
       × Became e S (perform e S create) 2 [] (b ∷ []) [] (cellsOf b)
-  unfolding says perform createCall createIn createOn refuseFull
+  unfolding perform createCall createIn createOn refuseFull
   create-turns s h =
-      let (a, cs, was, v) = said-done (λ s. s ∷ []) (createCall e P R) (s ∷ []) h in
+      let (a, cs, was, v) = said-done oneNumber (createCall e P R) (s ∷ []) (sym (says-create e S) ∙ h) in
       let same : a ≡ s = cc in
       let q : createCall e P R ≡ done s cs = was ∙ ap (λ (a : ℕ). done a cs) same in
       let (o, w) = opened-done e P R _ q in
       let l = sized-lengths e P R (o .sized) in
       let (bs, seen, f, k) = afterCheck-done (poolCheck e N P R) _ w in
-      let (t, d) = refuseIf-done (ltb (list.length (freeAt e S)) 1) 11 _ k in
+      let (t, d) = refuseIf-done (ltb (length (freeAt e S)) 1) 11 _ k in
       let i = done-same d in
       let m = create-done e p S q in
-      let (rest, free) = first-free (freeAt e S) s (ltb-false (list.length (freeAt e S)) 1 t) (i .0) in
+      let (rest, free) = first-free (freeAt e S) s (ltb-false (length (freeAt e S)) 1 t) (i .0) in
       let after = done-after (createCall e P R) s cs q in (
         emptyBlob s,
         rest,
@@ -157,7 +157,7 @@ module _ (e : Edition) (p : Proper e) (S : Store) where
   freed-again S′ b new left none l lay q x k out young =
       let low : x < N = lies-within e N P R b lay x (member-times x k) in
       let n : slotsAt e S′ ≡ N =
-      ap (λ (T : Store). list.length (T .pool) / e .size) q
+      ap (λ (T : Store). length (T .pool) / e .size) q
       ∙ ap (λ (n : ℕ). n / e .size) (then-pool e N S 1 (held (cellsOf b)) (held new) (l .whole) (l .lines)) in
       free-again S′ x n low young
       (gone-line S′ x (cellsOf b) new (member-times x k) (none x out) (all-turn e S S′ 1 (cellsOf b) new l q x low))
@@ -176,12 +176,12 @@ module _ (e : Edition) (p : Proper e) (S : Store) where
 
   -- write
   pub write-turns : (r offset : ℕ) (d vs : List ℕ) → says e S (write r offset d) ≡ yields vs
-      → (b b′ : Blob) × (rootOf b ≡ r) × (rootOf b′ ≡ r) × (offset + list.length d ≤ lengthOf b)
+      → (b b′ : Blob) × (rootOf b ≡ r) × (rootOf b′ ≡ r) × (offset + length d ≤ lengthOf b)
       × (contentOf b′ ≡ pasted offset d (contentOf b)) × (slotsOf b′ ≡ slotsOf b)
       × Became e S (perform e S (write r offset d)) 1 (b ∷ []) (b′ ∷ []) (cellsOf b) (cellsOf b′)
-  unfolding says perform writeCall lengthOf
+  unfolding perform writeCall lengthOf
   write-turns r offset d vs h =
-      let (a, cs, q, v) = said-done (λ v. []) (writeCall e P R r offset d) vs h in
+      let (a, cs, q, v) = said-done noNumber (writeCall e P R r offset d) vs (sym (says-write e S r offset d) ∙ h) in
       let c = write-done e p S r offset d q in (
         c .blob,
         c .made,
@@ -200,16 +200,16 @@ module _ (e : Edition) (p : Proper e) (S : Store) where
       × (lengthOf b ≤ len → (x : ℕ) → List·Memᴰ x (slotsOf b) ⊎ List·Memᴰ x (take (newAt e S len b) (freeAt e S)) → List·Memᴰ x (slotsOf b′))
       × Became e S (perform e S (resize r len)) 1 (b ∷ []) (b′ ∷ []) (cellsOf b) (cellsOf b′)
       × Freed e S (perform e S (resize r len)) b (slotsOf b′)
-  unfolding says perform resizeCall cellSlots slotsOf
+  unfolding perform resizeCall cellSlots slotsOf
   resize-turns r len vs h =
-      let (a, cs, q, v) = said-done (λ v. []) (resizeCall e P R r len) vs h in
+      let (a, cs, q, v) = said-done noNumber (resizeCall e P R r len) vs (sym (says-resize e S r len) ∙ h) in
       let c = resize-done e p S r len q in
       let b : Blob = c .blob in
       let o = opened-done e P R _ q .0 in
       let lay = among-lies e N P R (c .before) (c .after) b (c .was) in
       let s : Shaped e b = lay .shape in
       let is : c .made ≡ resized e len (freeAt e S) b = c .bytes .1 in
-      let few : newAt e S len b ≤ list.length (freeAt e S) = c .bytes .2 in (
+      let few : newAt e S len b ≤ length (freeAt e S) = c .bytes .2 in (
         b,
         c .made,
         c .at,
@@ -238,9 +238,9 @@ module _ (e : Edition) (p : Proper e) (S : Store) where
   -- delete
   pub delete-turns : (r : ℕ) (vs : List ℕ) → says e S (delete r) ≡ yields vs
       → (b : Blob) × (rootOf b ≡ r) × Became e S (perform e S (delete r)) 1 (b ∷ []) [] (cellsOf b) [] × Freed e S (perform e S (delete r)) b []
-  unfolding says perform deleteCall deleteIn deleteOn cellSlots slotsOf
+  unfolding perform deleteCall deleteIn deleteOn cellSlots slotsOf
   delete-turns r vs h =
-      let (a, cs, q, v) = said-done (λ v. []) (deleteCall e P R r) vs h in
+      let (a, cs, q, v) = said-done noNumber (deleteCall e P R r) vs (sym (says-delete e S r) ∙ h) in
       let (o, w) = opened-done e P R _ q in
       let l = sized-lengths e P R (o .sized) in
       let c = changing-done e p N P R (l .whole) r (deleteOn e N P R) w in

@@ -1,7 +1,8 @@
 -- The three demands as theorems: Demands exports them; the other files prove their parts.
-pub mod Stores
+pub mod Said
 pub mod Faults
 pub mod Refused
+pub mod Stores
 pub mod One
 pub mod Table
 pub mod Done

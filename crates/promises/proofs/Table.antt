@@ -1,14 +1,15 @@
 -- Demand one, whole: the table holds both ways, its numbers, and what is left untouched.
-use mathlib.Core.Path.{_≡_, refl, sym, subst, _∙_}
+use mathlib.Core.Path.{_≡_, refl, sym, ap, subst, _∙_}
 use mathlib.Core.Logic.{_↔_, _⊎_, inl, inr}
 use mathlib.Core.Bool.{Bool, true, false}
-use mathlib.Core.List.{List, [], _∷_}
+use mathlib.Core.List.{List}
 use Prim.Native.Nat.{ℕ, _+_, _≤_, _<_}
 use native.Mathlib.Omega.{arith}
 use borrow.Author.Tests.{lt-ltb, le-leb}
-use lib.ListN as list
+use lib.ListN.{length}
 use Rattle.meaning.specs.declared.Edition.{Edition}
 use Rattle.meaning.specs.declared.Refusal.{Refusal}
+use Rattle.meaning.specs.declared.Finished.{Finished}
 use Rattle.meaning.specs.declared.Finished.the-variants as finishedCase
 use Rattle.meaning.specs.Lists.{pick}
 use Rattle.meaning.specs.Edition.{Proper}
@@ -16,19 +17,21 @@ use Rattle.meaning.specs.Tree.{Blob, leavesOf, lengthOf}
 use Rattle.meaning.specs.Refusals.{refusalOf, at, nowhere}
 use Rattle.meaning.specs.Walk.{fault, fine}
 use Rattle.meaning.specs.Change.{Store}
-use Rattle.meaning.specs.Calls.{Outcome, done, after, sized, refusePast, refuseFull, wiped, afterWipe}
+use Rattle.meaning.specs.Calls.{Outcome, after, sized, refusePast, refuseFull, wiped, afterWipe}
 use Rattle.meaning.specs.Calls.{readOn, readIn, showOn, showIn, createOn, createIn, writeOn, writeIn, resizeOn, resizeIn}
 use Rattle.meaning.specs.Calls.{lengthCall, readCall, showCall, auditCall, createCall, writeCall, resizeCall, deleteCall}
-use Rattle.meaning.specs.Answers.{wipeAnswer, Said, yields, refuses, finishedSaid, shownPart}
-use Rattle.meaning.specs.Run.{Call, create, audit, write, resize, delete, tellLength, read, showLeaf, saidBy, says, perform}
+use Rattle.meaning.specs.Answers.{wipeAnswer, Reads, readOut, Said, yields, refuses, finishedSaid}
+use Rattle.meaning.specs.Run.{Call, create, audit, write, resize, delete, tellLength, read, showLeaf, says, perform}
 use Rattle.laws.proofs.OneToOne.{length-said-same, audit-said-same, created-said-same, changed-said-same, finished-said-same, leaf-said-same}
-use Rattle.promises.proofs.Stores.{said-refused, refused-said}
+use Rattle.promises.proofs.Said.{saidBy, oneNumber, noNumber, allBytes, leafShown, said-refused, refused-said}
+use Rattle.promises.proofs.Said.{says-create, says-audit, says-write, says-resize, says-delete, says-length, says-read, says-show}
+use Rattle.promises.proofs.Stores.{reads}
 use Rattle.promises.proofs.Faults.{OfWalk, blob-numbered, pool-numbered}
 use Rattle.promises.proofs.Refused.{if-refused, check-passed, opened-passed, worn-refused, worn-passed}
-use Rattle.promises.proofs.One.{chain, chain-table, chain-1, chain-2, chain-3, chain-walk, one-fault, reading-met, changing-met}
+use Rattle.promises.proofs.One.{chain, chain-table, chain-1, chain-2, chain-3, chain-walk, one-fault, changing-met}
 use Rattle.promises.specs.Demands.{slotsAt, blobAt, poolAt, freeAt, newAt, walked, Opened, Met, Worn, DemandOne}
-use Rattle.promises.specs.Demands.{Table, row-1, row-2, row-3, rows-4-to-9, row-12-write, row-12-resize, row-10-write, row-10-read, row-10-show}
-use Rattle.promises.specs.Demands.{row-11-resize, row-11-create}
+use Rattle.promises.specs.Demands.{Table, refusal-1, refusal-2, refusal-3, refusals-4-to-9, refusal-12-write, refusal-12-resize, refusal-10-write, refusal-10-read, refusal-10-show}
+use Rattle.promises.specs.Demands.{refusal-11-resize, refusal-11-create}
 
 module _ (e : Edition) (p : Proper e) (S : Store) where
   abbrev N : ℕ
@@ -40,76 +43,76 @@ module _ (e : Edition) (p : Proper e) (S : Store) where
   abbrev R : List ℕ
   R = S .records
 
-  -- the rows of one call each: 12 of write
+  -- the refusals of one call each: 12 of write
   write-worn : (r offset : ℕ) (d : List ℕ) (b : Blob) → Met e S (write r offset d) r b → Worn S b → says e S (write r offset d) ≡ refuses (nowhere 12)
-  unfolding says writeCall writeIn walked
+  unfolding writeCall writeIn walked
   write-worn r offset d b m worn =
-      refused-said (λ v. []) _ (nowhere 12) (changing-met e p S (write r offset d) r b (writeOn e N P R offset d) refl m
+      says-write e S r offset d ∙ refused-said noNumber _ (nowhere 12) (changing-met e p S (write r offset d) r b (writeOn e N P R offset d) refl m
       ∙ unfold writeOn in worn-refused e S _ b worn)
 
   -- 12 of resize
   resize-worn : (r len : ℕ) (b : Blob) → Met e S (resize r len) r b → Worn S b → says e S (resize r len) ≡ refuses (nowhere 12)
-  unfolding says resizeCall resizeIn walked
+  unfolding resizeCall resizeIn walked
   resize-worn r len b m worn =
-      refused-said (λ v. []) _ (nowhere 12) (changing-met e p S (resize r len) r b (resizeOn e N P R len) refl m
+      says-resize e S r len ∙ refused-said noNumber _ (nowhere 12) (changing-met e p S (resize r len) r b (resizeOn e N P R len) refl m
       ∙ unfold resizeOn in worn-refused e S _ b worn)
 
   -- 10 of write
-  write-past : (r offset : ℕ) (d : List ℕ) (b : Blob) → Met e S (write r offset d) r b → (Worn S b → ⊥) → lengthOf b < offset + list.length d
+  write-past : (r offset : ℕ) (d : List ℕ) (b : Blob) → Met e S (write r offset d) r b → (Worn S b → ⊥) → lengthOf b < offset + length d
       → says e S (write r offset d) ≡ refuses (nowhere 10)
-  unfolding says writeCall writeIn walked
+  unfolding writeCall writeIn walked
   write-past r offset d b m young h =
-      refused-said (λ v. []) _ (nowhere 10) (changing-met e p S (write r offset d) r b (writeOn e N P R offset d) refl m
-      ∙ unfold writeOn refusePast in worn-passed e S _ b young ∙ if-refused _ 10 _ (lt-ltb (lengthOf b) (offset + list.length d) h))
+      says-write e S r offset d ∙ refused-said noNumber _ (nowhere 10) (changing-met e p S (write r offset d) r b (writeOn e N P R offset d) refl m
+      ∙ unfold writeOn refusePast in worn-passed e S _ b young ∙ if-refused _ 10 _ (lt-ltb (lengthOf b) (offset + length d) h))
 
   -- 10 of read
   read-past : (r offset size : ℕ) (b : Blob) → Met e S (read r offset size) r b → lengthOf b < offset + size
       → says e S (read r offset size) ≡ refuses (nowhere 10)
-  unfolding says readCall readIn
+  unfolding readCall readIn
   read-past r offset size b m h =
-      refused-said (λ d. d) _ (nowhere 10) (reading-met e p S (read r offset size) r b (readOn e N P R offset size) m
+      says-read e S r offset size ∙ refused-said allBytes _ (nowhere 10) (reads e p S r b (m .opened, m .root, m .found) (readOn e N P R offset size)
       ∙ unfold readOn refusePast in if-refused _ 10 _ (lt-ltb (lengthOf b) (offset + size) h))
 
   -- 10 of show
-  show-past : (r k : ℕ) (b : Blob) → Met e S (showLeaf r k) r b → list.length (leavesOf b) ≤ k → says e S (showLeaf r k) ≡ refuses (nowhere 10)
-  unfolding says showCall showIn
+  show-past : (r k : ℕ) (b : Blob) → Met e S (showLeaf r k) r b → length (leavesOf b) ≤ k → says e S (showLeaf r k) ≡ refuses (nowhere 10)
+  unfolding showCall showIn
   show-past r k b m h =
-      refused-said (λ v. v .0 ∷ v .1 ∷ shownPart e P (done v [])) _ (nowhere 10) (reading-met e p S (showLeaf r k) r b (showOn e N P R k) m
-      ∙ unfold showOn in if-refused _ 10 _ (le-leb (list.length (leavesOf b)) k h))
+      says-show e S r k ∙ refused-said (leafShown e P) _ (nowhere 10) (reads e p S r b (m .opened, m .root, m .found) (showOn e N P R k)
+      ∙ unfold showOn in if-refused _ 10 _ (le-leb (length (leavesOf b)) k h))
 
   -- 11 of resize
-  resize-full : (r len : ℕ) (b : Blob) → Met e S (resize r len) r b → (Worn S b → ⊥) → list.length (freeAt e S) < newAt e S len b
+  resize-full : (r len : ℕ) (b : Blob) → Met e S (resize r len) r b → (Worn S b → ⊥) → length (freeAt e S) < newAt e S len b
       → says e S (resize r len) ≡ refuses (nowhere 11)
-  unfolding says resizeCall resizeIn walked
+  unfolding resizeCall resizeIn walked
   resize-full r len b m young h =
-      refused-said (λ v. []) _ (nowhere 11) (changing-met e p S (resize r len) r b (resizeOn e N P R len) refl m
-      ∙ unfold resizeOn refuseFull in worn-passed e S _ b young ∙ if-refused _ 11 _ (lt-ltb (list.length (freeAt e S)) (newAt e S len b) h))
+      says-resize e S r len ∙ refused-said noNumber _ (nowhere 11) (changing-met e p S (resize r len) r b (resizeOn e N P R len) refl m
+      ∙ unfold resizeOn refuseFull in worn-passed e S _ b young ∙ if-refused _ 11 _ (lt-ltb (length (freeAt e S)) (newAt e S len b) h))
 
   -- 11 of create
-  create-full : (bs : List Blob) (seen : List ℕ) → Opened e S → poolAt e S ≡ fine bs seen → list.length (freeAt e S) < 1
+  create-full : (bs : List Blob) (seen : List ℕ) → Opened e S → poolAt e S ≡ fine bs seen → length (freeAt e S) < 1
       → says e S create ≡ refuses (nowhere 11)
-  unfolding says createCall createIn createOn refuseFull
+  unfolding createCall createIn createOn refuseFull
   create-full bs seen o f h =
-      refused-said (λ s. s ∷ []) _ (nowhere 11) (opened-passed e S _ o ∙ check-passed (poolAt e S) (createOn e N P R) bs seen f
-      ∙ if-refused _ 11 _ (lt-ltb (list.length (freeAt e S)) 1 h))
+      says-create e S ∙ refused-said oneNumber _ (nowhere 11) (opened-passed e S _ o ∙ check-passed (poolAt e S) (createOn e N P R) bs seen f
+      ∙ if-refused _ 11 _ (lt-ltb (length (freeAt e S)) 1 h))
 
-  -- a row of another call
+  -- a refusal of another call
   other-call : (c : Call) (x : Call) (q t : Refusal) → c ≡ x → q ≡ t → says e S x ≡ refuses t → says e S c ≡ refuses q
   other-call c x q t k l h = rw (k, l) h
 
-  -- a row holds: the call is refused so
+  -- one of the table holds: the call is refused so
   table-says : (c : Call) (q : Refusal) → Table e S c q → says e S c ≡ refuses q
-  table-says c q (row-1 h k) = chain-1 e S c (chain e p S c) q h k
-  table-says c q (row-2 s h low bad f k) = chain-2 e S c (chain e p S c) q s h low bad f k
-  table-says c q (row-3 r o one bad k) = chain-3 e S c (chain e p S c) q r o one bad k
-  table-says c q (rows-4-to-9 o roots f) = chain-walk e S c (chain e p S c) q o roots f
-  table-says c q (row-12-write r offset d b k m worn l) = other-call c _ q _ k l (write-worn r offset d b (subst (λ c. Met e S c r b) k m) worn)
-  table-says c q (row-12-resize r len b k m worn l) = other-call c _ q _ k l (resize-worn r len b (subst (λ c. Met e S c r b) k m) worn)
-  table-says c q (row-10-write r offset d b k m y h l) = other-call c _ q _ k l (write-past r offset d b (subst (λ c. Met e S c r b) k m) y h)
-  table-says c q (row-10-read r offset size b k m h l) = other-call c _ q _ k l (read-past r offset size b (subst (λ c. Met e S c r b) k m) h)
-  table-says c q (row-10-show r i b k m h l) = other-call c _ q _ k l (show-past r i b (subst (λ c. Met e S c r b) k m) h)
-  table-says c q (row-11-resize r len b k m y h l) = other-call c _ q _ k l (resize-full r len b (subst (λ c. Met e S c r b) k m) y h)
-  table-says c q (row-11-create bs seen k o f h l) = other-call c _ q _ k l (create-full bs seen o f h)
+  table-says c q (refusal-1 h k) = chain-1 e S c (chain e p S c) q h k
+  table-says c q (refusal-2 s h low bad f k) = chain-2 e S c (chain e p S c) q s h low bad f k
+  table-says c q (refusal-3 r o one bad k) = chain-3 e S c (chain e p S c) q r o one bad k
+  table-says c q (refusals-4-to-9 o roots f) = chain-walk e S c (chain e p S c) q o roots f
+  table-says c q (refusal-12-write r offset d b k m worn l) = other-call c _ q _ k l (write-worn r offset d b (subst (λ c. Met e S c r b) k m) worn)
+  table-says c q (refusal-12-resize r len b k m worn l) = other-call c _ q _ k l (resize-worn r len b (subst (λ c. Met e S c r b) k m) worn)
+  table-says c q (refusal-10-write r offset d b k m y h l) = other-call c _ q _ k l (write-past r offset d b (subst (λ c. Met e S c r b) k m) y h)
+  table-says c q (refusal-10-read r offset size b k m h l) = other-call c _ q _ k l (read-past r offset size b (subst (λ c. Met e S c r b) k m) h)
+  table-says c q (refusal-10-show r i b k m h l) = other-call c _ q _ k l (show-past r i b (subst (λ c. Met e S c r b) k m) h)
+  table-says c q (refusal-11-resize r len b k m y h l) = other-call c _ q _ k l (resize-full r len b (subst (λ c. Met e S c r b) k m) y h)
+  table-says c q (refusal-11-create bs seen k o f h l) = other-call c _ q _ k l (create-full bs seen o f h)
 
   -- a walk's refusals
   walk-numbered : (c : Call) (q : Refusal) → walked e S c ≡ fault q → OfWalk q
@@ -137,19 +140,19 @@ module _ (e : Edition) (p : Proper e) (S : Store) where
   unfolding at refusalOf
   at-listed s q k = rw k (omega arith, omega arith)
 
-  -- every row has one
+  -- every refusal of the table has one
   table-listed : (c : Call) (q : Refusal) → Table e S c q → Listed q
-  table-listed c q (row-1 h k) = nowhere-listed 1 q (omega arith) (omega arith) k
-  table-listed c q (row-2 s h low bad f k) = at-listed s q k
-  table-listed c q (row-3 r o one bad k) = nowhere-listed 3 q (omega arith) (omega arith) k
-  table-listed c q (rows-4-to-9 o roots f) = let (lo, hi, s) = walk-numbered c q f in (omega arith, omega arith)
-  table-listed c q (row-12-write r offset d b k m worn l) = nowhere-listed 12 q (omega arith) (omega arith) l
-  table-listed c q (row-12-resize r len b k m worn l) = nowhere-listed 12 q (omega arith) (omega arith) l
-  table-listed c q (row-10-write r offset d b k m y h l) = nowhere-listed 10 q (omega arith) (omega arith) l
-  table-listed c q (row-10-read r offset size b k m h l) = nowhere-listed 10 q (omega arith) (omega arith) l
-  table-listed c q (row-10-show r i b k m h l) = nowhere-listed 10 q (omega arith) (omega arith) l
-  table-listed c q (row-11-resize r len b k m y h l) = nowhere-listed 11 q (omega arith) (omega arith) l
-  table-listed c q (row-11-create bs seen k o f h l) = nowhere-listed 11 q (omega arith) (omega arith) l
+  table-listed c q (refusal-1 h k) = nowhere-listed 1 q (omega arith) (omega arith) k
+  table-listed c q (refusal-2 s h low bad f k) = at-listed s q k
+  table-listed c q (refusal-3 r o one bad k) = nowhere-listed 3 q (omega arith) (omega arith) k
+  table-listed c q (refusals-4-to-9 o roots f) = let (lo, hi, s) = walk-numbered c q f in (omega arith, omega arith)
+  table-listed c q (refusal-12-write r offset d b k m worn l) = nowhere-listed 12 q (omega arith) (omega arith) l
+  table-listed c q (refusal-12-resize r len b k m worn l) = nowhere-listed 12 q (omega arith) (omega arith) l
+  table-listed c q (refusal-10-write r offset d b k m y h l) = nowhere-listed 10 q (omega arith) (omega arith) l
+  table-listed c q (refusal-10-read r offset size b k m h l) = nowhere-listed 10 q (omega arith) (omega arith) l
+  table-listed c q (refusal-10-show r i b k m h l) = nowhere-listed 10 q (omega arith) (omega arith) l
+  table-listed c q (refusal-11-resize r len b k m y h l) = nowhere-listed 11 q (omega arith) (omega arith) l
+  table-listed c q (refusal-11-create bs seen k o f h l) = nowhere-listed 11 q (omega arith) (omega arith) l
 
   -- how a call ends: with its result, or with a listed refusal
   abbrev Ended : Call → Type 0
@@ -170,15 +173,22 @@ module _ (e : Edition) (p : Proper e) (S : Store) where
 
   -- and so does a refused call
   call-untouched : (c : Call) (q : Refusal) → says e S c ≡ refuses q → perform e S c ≡ S
-  unfolding says perform
-  call-untouched create q h = refused-after _ (createCall e P R) q h
-  call-untouched audit q h = refused-after _ (auditCall e P R) q h
-  call-untouched (write r offset d) q h = refused-after _ (writeCall e P R r offset d) q h
-  call-untouched (resize r len) q h = refused-after _ (resizeCall e P R r len) q h
-  call-untouched (delete r) q h = refused-after _ (deleteCall e P R r) q h
-  call-untouched (tellLength r) q h = refused-after _ (lengthCall e P R r) q h
-  call-untouched (read r offset size) q h = refused-after _ (readCall e P R r offset size) q h
-  call-untouched (showLeaf r k) q h = refused-after _ (showCall e P R r k) q h
+  unfolding perform
+  call-untouched create q h = refused-after _ (createCall e P R) q (sym (says-create e S) ∙ h)
+  call-untouched audit q h = refused-after _ (auditCall e P R) q (sym (says-audit e S) ∙ h)
+  call-untouched (write r offset d) q h = refused-after _ (writeCall e P R r offset d) q (sym (says-write e S r offset d) ∙ h)
+  call-untouched (resize r len) q h = refused-after _ (resizeCall e P R r len) q (sym (says-resize e S r len) ∙ h)
+  call-untouched (delete r) q h = refused-after _ (deleteCall e P R r) q (sym (says-delete e S r) ∙ h)
+  call-untouched (tellLength r) q h = refused-after _ (lengthCall e P R r) q (sym (says-length e S r) ∙ h)
+  call-untouched (read r offset size) q h = refused-after _ (readCall e P R r offset size) q (sym (says-read e S r offset size) ∙ h)
+  call-untouched (showLeaf r k) q h = refused-after _ (showCall e P R r k) q (sym (says-show e S r k) ∙ h)
+
+  -- nor does a refused read fill any byte
+  read-unfilled : (r offset size : ℕ) (q : Refusal) → says e S (read r offset size) ≡ refuses q → (x : Finished) (out out′ : List ℕ)
+      → Reads (readCall e P R r offset size) x out out′ → out′ ≡ out
+  unfolding readOut
+  read-unfilled r offset size q h x out out′ a =
+      a .output ∙ ap (λ o. readOut o out) (said-refused allBytes (readCall e P R r offset size) q (sym (says-read e S r offset size) ∙ h))
 
   -- wipe
   wipe-exactly : (q : Refusal) → (finishedSaid (wipeAnswer e P R) ≡ refuses q) ↔ ((sized e P R ≡ false) × (q ≡ nowhere 1))
@@ -201,9 +211,11 @@ one e p = record {
   exactly = λ S c q. (chain-table e S c (chain e p S c) q, table-says e p S c q);
   walks = walk-numbered e p;
   untouched = call-untouched e p;
+  unfilled = read-unfilled e p;
   wipe = wipe-exactly e p;
   wiping = wipe-leaves e p;
   one-end = λ say o P R x y P′ R′ P″ R″ a b. (a .answer ∙ sym (b .answer), a .pool ∙ sym (b .pool), a .records ∙ sym (b .records));
+  one-wipe = λ P R x y P′ R′ P″ R″ a b. (a .answer ∙ sym (b .answer), a .pool ∙ sym (b .pool), a .records ∙ sym (b .records));
   one-read = λ o x y out out′ out″ a b. (a .answer ∙ sym (b .answer), a .output ∙ sym (b .output));
   one-answer = (length-said-same, audit-said-same, created-said-same, changed-said-same, finished-said-same, leaf-said-same);
 }

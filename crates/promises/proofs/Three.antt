@@ -3,9 +3,8 @@ use mathlib.Core.Path.{_≡_, refl, sym, ap, subst, _∙_}
 use mathlib.Core.Logic.{_↔_, ⊎-elim}
 use mathlib.Core.Bool.{true}
 use mathlib.Core.List.{List, [], _∷_, List·Memᴰ, List·Memᴰ·head, List·Memᴰ·tail}
-use Prim.Native.Nat.{ℕ, _≤_}
-use lib.ListN.{replicate}
-use lib.ListN as list
+use Prim.Native.Nat.{ℕ, _+_, _*_, _≤_}
+use lib.ListN.{length, replicate}
 use Rattle.meaning.specs.declared.Edition.{Edition}
 use Rattle.meaning.specs.Edition.{Proper}
 use Rattle.meaning.specs.Bytes.{state}
@@ -15,7 +14,7 @@ use Rattle.meaning.specs.Walk.{fine, blobCheck, poolCheck}
 use Rattle.meaning.specs.Change.{Store}
 use Rattle.meaning.specs.Calls.{Outcome, refused, done, slotsIn, sized, auditCall}
 use Rattle.meaning.specs.Answers.{yields, refuses, shownPart}
-use Rattle.meaning.specs.Run.{Call, audit, tellLength, read, showLeaf, saidBy, says, run}
+use Rattle.meaning.specs.Run.{Call, audit, tellLength, read, showLeaf, says, run}
 use Rattle.laws_history.proofs.WalkOrder.{Each, each-mem}
 use Rattle.laws_history.proofs.Local.{Same}
 use Rattle.laws_history.proofs.Started.{blank, held, FromRun, run-slots}
@@ -25,7 +24,8 @@ use Rattle.laws_sound.proofs.sound.TimesListed.{marked}
 use Rattle.laws_sound.proofs.sound.Pools.{allSlots}
 use Rattle.laws_sound.proofs.again.Done.{Good}
 use Rattle.laws_sound.proofs.again.Runs.{run-good, good-passes}
-use Rattle.promises.proofs.Stores.{every-mem, in-middle, said-refused, refused-said, said-done}
+use Rattle.promises.proofs.Said.{saidBy, oneNumber, allBytes, leafShown, said-refused, refused-said, said-done, says-audit, says-length, says-read, says-show}
+use Rattle.promises.proofs.Stores.{every-mem, in-middle}
 use Rattle.promises.specs.Demands as demands
 use Rattle.promises.specs.Demands.{AsItWas, reader, Told, Filled, DemandThree}
 
@@ -38,9 +38,12 @@ mem-each Q (x ∷ xs) f = (f x (List·Memᴰ·head refl), mem-each Q xs (λ y m.
 first-other : (e : Edition) (P P* : List ℕ) (b : Blob) (f : FirstOther e P P* (slotsOf b)) → demands.FirstOther e P P* b (f .slot)
 first-other e P P* b f = (f .before, f .later, f .split, (λ x m. each-mem (Same e P P*) (f .same) m), f .differs)
 
--- where the outcomes of a call on two pools are told apart exactly by its blob's blocks, so are their answers
-module _ {A : Type 0} (e : Edition) (P P* R : List ℕ) (b : Blob) (o o* : Outcome A) (x : Exact e P P* R b o o*) (values values* : A → List ℕ)
-    (agree : Each (Same e P P*) (slotsOf b) → saidBy values* o* ≡ saidBy values o) where
+-- where the outcomes of a call on two pools are told apart exactly by its blob's blocks, so are its answers
+module _ {A : Type 0} (e : Edition) (S : Store) (P* : List ℕ) (b : Blob) (o o* : Outcome A) (x : Exact e (S .pool) P* (S .records) b o o*)
+    (values values* : A → List ℕ) (agree : Each (Same e (S .pool) P*) (slotsOf b) → saidBy values* o* ≡ saidBy values o) where
+  abbrev P : List ℕ
+  P = S .pool
+
   -- an answer as the writer's comes from the writer's blocks
   said-only : saidBy values* o* ≡ saidBy values o → Each (Same e P P*) (slotsOf b)
   said-only h =
@@ -54,10 +57,6 @@ module _ {A : Type 0} (e : Edition) (P P* R : List ℕ) (b : Blob) (o o* : Outco
       x .only (t .answer ∙ sym here))
       (each-or-first e P P* (slotsOf b))
 
-  -- exactly
-  said-exact : (saidBy values* o* ≡ saidBy values o) ↔ AsItWas e P P* b
-  said-exact = ((λ h s m. each-mem (Same e P P*) (said-only h) m), (λ all. agree (mem-each (Same e P P*) (slotsOf b) all)))
-
   -- otherwise refused, with the first slot that differs
   said-other : (AsItWas e P P* b → ⊥)
       → (n s : ℕ) × demands.FirstOther e P P* b s × (4 ≤ n) × (n ≤ 7) × (saidBy values* o* ≡ refuses (at n s))
@@ -65,44 +64,45 @@ module _ {A : Type 0} (e : Edition) (P P* R : List ℕ) (b : Blob) (o o* : Outco
       let t = x .other (λ all. d (λ s m. each-mem (Same e P P*) all m)) in
       (t .number, t .first .slot, first-other e P P* b (t .first), t .low, t .high, refused-said values* o* _ (t .answer))
 
-  -- both
-  said-told : ((saidBy values* o* ≡ saidBy values o) ↔ AsItWas e P P* b) × ((AsItWas e P P* b → ⊥)
-      → (n s : ℕ) × demands.FirstOther e P P* b s × (4 ≤ n) × (n ≤ 7) × (saidBy values* o* ≡ refuses (at n s)))
-  said-told = (said-exact, said-other)
+  -- so the call tells both ways
+  told-by : (c : Call) → says e S c ≡ saidBy values o → says e (reader P* S) c ≡ saidBy values* o* → Told e S P* b c
+  told-by c is is* = record {
+    answers = (
+      (λ h s m. each-mem (Same e P P*) (said-only (sym is* ∙ h ∙ is)) m),
+      (λ all. is* ∙ agree (mem-each (Same e P P*) (slotsOf b) all) ∙ sym is),
+    );
+    refuses = λ d. let (n, s, first, low, high, q) = said-other d in (n, s, first, low, high, is* ∙ q);
+  }
 
 -- a shown leaf's answer, where the bytes shown are the same
 shown-said : (e : Edition) (P P* : List ℕ) (o o* : Outcome (ℕ × ℕ)) → o* ≡ o → shownPart e P* o* ≡ shownPart e P o
-    → saidBy (λ v. v .0 ∷ v .1 ∷ shownPart e P* (done v [])) o* ≡ saidBy (λ v. v .0 ∷ v .1 ∷ shownPart e P (done v [])) o
+    → saidBy (leafShown e P*) o* ≡ saidBy (leafShown e P) o
 unfolding saidBy shownPart
 shown-said e P P* (refused r) o* q h = rw q
-shown-said e P P* (done v cs) o* q h = rw q (ap (λ (l : List ℕ). yields (v .0 ∷ v .1 ∷ l)) (rw q at h))
+shown-said e P P* (done v cs) o* q h = rw q (ap (λ (l : List ℕ). yields ((e .size * v .0 + 16) ∷ v .1 ∷ l)) (rw q at h))
 
 -- each reading call of a blob
 module _ (e : Edition) (N : ℕ) (S : Store) (P* : List ℕ) (r : ℕ) (a : Answers e N (S .pool) P* (S .records) r) where
   -- length
   length-told : Told e S P* (a .blob) (tellLength r)
-  unfolding says
   length-told =
-      let t = said-told e (S .pool) P* (S .records) (a .blob) _ _ (a .length) (λ n. n ∷ []) (λ n. n ∷ [])
-      (λ all. ap (saidBy (λ n. n ∷ [])) (a .length .same all)) in
-      record { answers = t .0; refuses = t .1 }
+      told-by e S P* (a .blob) _ _ (a .length) oneNumber oneNumber
+      (λ all. ap (saidBy oneNumber) (a .length .same all))
+      (tellLength r) (says-length e S r) (says-length e (reader P* S) r)
 
   -- read
   read-told : (offset size : ℕ) → Told e S P* (a .blob) (read r offset size)
-  unfolding says
   read-told offset size =
-      let t = said-told e (S .pool) P* (S .records) (a .blob) _ _ (a .read offset size) (λ d. d) (λ d. d)
-      (λ all. ap (saidBy (λ d. d)) (a .read offset size .same all)) in
-      record { answers = t .0; refuses = t .1 }
+      told-by e S P* (a .blob) _ _ (a .read offset size) allBytes allBytes
+      (λ all. ap (saidBy allBytes) (a .read offset size .same all))
+      (read r offset size) (says-read e S r offset size) (says-read e (reader P* S) r offset size)
 
   -- show a leaf
   leaf-told : (k : ℕ) → Told e S P* (a .blob) (showLeaf r k)
-  unfolding says
   leaf-told k =
-      let t = said-told e (S .pool) P* (S .records) (a .blob) _ _ (a .show k) (λ v. v .0 ∷ v .1 ∷ shownPart e (S .pool) (done v []))
-      (λ v. v .0 ∷ v .1 ∷ shownPart e P* (done v []))
-      (λ all. shown-said e (S .pool) P* _ _ (a .show k .same all) (a .shown k all)) in
-      record { answers = t .0; refuses = t .1 }
+      told-by e S P* (a .blob) _ _ (a .show k) (leafShown e (S .pool)) (leafShown e P*)
+      (λ all. shown-said e (S .pool) P* _ _ (a .show k .same all) (a .shown k all))
+      (showLeaf r k) (says-show e S r k) (says-show e (reader P* S) r k)
 
   -- any of them
   told : (offset size k : ℕ) (c : Call) → List·Memᴰ c (tellLength r ∷ read r offset size ∷ showLeaf r k ∷ []) → Told e S P* (a .blob) c
@@ -111,7 +111,7 @@ module _ (e : Edition) (N : ℕ) (S : Store) (P* : List ℕ) (r : ℕ) (a : Answ
   told offset size k c (List·Memᴰ·tail (List·Memᴰ·tail (List·Memᴰ·head q))) = subst (Told e S P* (a .blob)) (sym q) (leaf-told k)
 
 module _ (e : Edition) (p : Proper e) (S₀ : Store) (good : sized e (S₀ .pool) (S₀ .records) ≡ true) (calls : List Call)
-    (S : Store) (moment : List·Memᴰ S (run e S₀ calls)) (P* : List ℕ) (size : list.length P* ≡ list.length (S .pool))
+    (S : Store) (moment : List·Memᴰ S (run e S₀ calls)) (P* : List ℕ) (size : length P* ≡ length (S .pool))
     (fill : Filled e S₀ calls P*) where
   -- the filling, in the words of the laws
   filled : FromRun e S₀ calls P*
@@ -138,11 +138,11 @@ module _ (e : Edition) (p : Proper e) (S₀ : Store) (good : sized e (S₀ .pool
 
   -- the audit
   pub audit-told : ((vs : List ℕ) × (says e (reader P* S) audit ≡ yields vs)) ↔ (P* ≡ S .pool)
-  unfolding says saidBy
+  unfolding saidBy
   audit-told =
       let a = audit-demand e p S₀ good calls S moment _ _ checks P* size filled in (
-        (λ (vs, h). let (n, cs, q, v) = said-done (λ n. n ∷ []) (auditCall e P* (S .records)) vs h in a .only n cs q),
-        (λ q. (_, ap (saidBy (λ n. n ∷ [])) (a .same q))),
+        (λ (vs, h). let (n, cs, q, v) = said-done oneNumber (auditCall e P* (S .records)) vs (sym (says-audit e (reader P* S)) ∙ h) in a .only n cs q),
+        (λ q. (_, says-audit e (reader P* S) ∙ ap (saidBy oneNumber) (a .same q))),
       )
 
 -- demand three

@@ -2,21 +2,22 @@
 use mathlib.Core.Path.{_≡_, refl, sym, ap, ap₂, subst, _∙_}
 use mathlib.Core.Bool.{true}
 use mathlib.Core.List.{List, [], _∷_, _++_, map, List·Memᴰ}
-use Prim.Native.Nat.{ℕ, zero, suc, _+_, _-_, _<_}
+use Prim.Native.Nat.{ℕ, zero, suc, _-_, _<_}
 use native.Mathlib.Omega.{arith}
-use lib.ListN as list
+use lib.ListN.{length, getD}
 use lib.Seq.{take-length}
 use Rattle.meaning.specs.declared.Edition.{Edition}
+use Rattle.meaning.specs.declared.Finished.{Finished}
 use Rattle.meaning.specs.Lists.{part}
 use Rattle.meaning.specs.Edition.{Proper}
 use Rattle.meaning.specs.Bytes.{Cell}
-use Rattle.meaning.specs.Tree.{Tree, Blob, contentOf, cellsOf, slotsOf, lengthOf}
+use Rattle.meaning.specs.Tree.{Tree, Blob, rootOf, contentOf, cellsOf, slotsOf, lengthOf}
 use Rattle.meaning.specs.Shape.{leavesFor, total, Shaped}
 use Rattle.meaning.specs.Walk.{fine, blobCheck}
 use Rattle.meaning.specs.Change.{Store}
-use Rattle.meaning.specs.Calls.{sized, newBlocks, live}
-use Rattle.meaning.specs.Answers.{yields}
-use Rattle.meaning.specs.Run.{Call, audit, write, resize, tellLength, read, saidBy, says, perform, run, bookOf, blocksOf}
+use Rattle.meaning.specs.Calls.{sized, newBlocks, live, readCall}
+use Rattle.meaning.specs.Answers.{Reads, readOut, yields}
+use Rattle.meaning.specs.Run.{Call, audit, write, resize, tellLength, read, says, perform, run, bookOf, blocksOf}
 use Rattle.laws.proofs.Parts.{pasted-length, part-pasted}
 use Rattle.laws.proofs.Codec.{padded-length}
 use Rattle.laws.proofs.Heights.{height-enough, height-least}
@@ -27,9 +28,10 @@ use Rattle.laws_resize.proofs.resizing.Resized.{none-new}
 use Rattle.laws_sound.proofs.again.Outcomes.{sized-lengths}
 use Rattle.laws_sound.proofs.again.Done.{Good}
 use Rattle.laws_sound.proofs.again.Runs.{run-good, run-live, run-end}
-use Rattle.promises.proofs.Stores.{every-mem, in-middle, good-is, gives-length, gives-bytes, gives-leaf}
+use Rattle.promises.proofs.Said.{saidBy, oneNumber, allBytes, said-done, says-audit, says-read}
+use Rattle.promises.proofs.Stores.{every-mem, in-middle, good-is, gives-length, gives-bytes, gives-leaf, gives-count, is-alive}
 use Rattle.promises.proofs.Done.{create-turns, write-turns, resize-turns, delete-turns}
-use Rattle.promises.specs.Demands.{slotsAt, blobAt, newAt, Opened, bareTree, shapeOf, Passes, Became, DemandTwo}
+use Rattle.promises.specs.Demands.{slotsAt, blobAt, newAt, Opened, bareTree, shapeOf, Passes, Finds, Became, DemandTwo}
 
 -- two functions that agree map alike
 each-is : {A : Type 0} (f g : A → A) → ((x : A) → f x ≡ g x) → (l : List A) → map f l ≡ map g l
@@ -56,14 +58,14 @@ found-shaped e p S r b seen o low h =
 
 -- new blocks needed
 needed : (e : Edition) → Proper e → (S : Store) (len : ℕ) (b : Blob) → Shaped e b
-    → newAt e S len b ≡ total (e .fan) (leavesFor (e .leaf) len) - list.length (slotsOf b)
+    → newAt e S len b ≡ total (e .fan) (leavesFor (e .leaf) len) - length (slotsOf b)
 unfolding newBlocks
 needed e p S len b s = ap (λ (n : ℕ). total (e .fan) (leavesFor (e .leaf) len) - n) (sym (shaped-slots e (p .some) (p .two) b s))
 
--- a blob that was made is alive
-made-alive : (e : Edition) (S S′ : Store) (taken : ℕ) (gone : List Blob) (b : Blob) (old new : List (ℕ × Cell))
-    → Became e S S′ taken gone (b ∷ []) old new → (bs : List Blob) × Passes e S′ bs × List·Memᴰ b bs
-made-alive e S S′ taken gone b old new c = (c .before ++ (b ∷ c .after), c .is, in-middle (c .before) b (c .after))
+-- a blob that was made is found from its root
+made-alive : (e : Edition) → Proper e → (S S′ : Store) (taken : ℕ) (gone : List Blob) (b : Blob) (old new : List (ℕ × Cell))
+    → Became e S S′ taken gone (b ∷ []) old new → Finds e S′ (rootOf b) b
+made-alive e p S S′ taken gone b old new c = is-alive e p S′ (c .before ++ (b ∷ c .after)) (c .is) b (in-middle (c .before) b (c .after))
 
 -- after a resize, the length
 length-then : (e : Edition) → Proper e → (S : Store) (r len : ℕ) (vs : List ℕ) → says e S (resize r len) ≡ yields vs
@@ -71,24 +73,32 @@ length-then : (e : Edition) → Proper e → (S : Store) (r len : ℕ) (vs : Lis
 unfolding lengthOf
 length-then e p S r len vs h =
     let (b, b′, at, stays, is, bytes, old, new, c, f) = resize-turns e p S r len vs h in
-    let (bs, g, m) = made-alive e S (perform e S (resize r len)) 1 (b ∷ []) b′ (cellsOf b) (cellsOf b′) c in
-    let says-so = gives-length e p (perform e S (resize r len)) bs b′ g m in
-    let long : lengthOf b′ ≡ len = ap list.length bytes ∙ padded-length len (contentOf b) in
+    let g = made-alive e p S (perform e S (resize r len)) 1 (b ∷ []) b′ (cellsOf b) (cellsOf b′) c in
+    let says-so = gives-length e p (perform e S (resize r len)) (rootOf b′) b′ g in
+    let long : lengthOf b′ ≡ len = ap length bytes ∙ padded-length len (contentOf b) in
     subst (λ (s : ℕ). says e (perform e S (resize r len)) (tellLength s) ≡ yields (len ∷ [])) stays (says-so ∙ ap (λ (n : ℕ). yields (n ∷ [])) long)
 
 -- after a write, the bytes
 bytes-then : (e : Edition) → Proper e → (S : Store) (r offset : ℕ) (d vs : List ℕ) → says e S (write r offset d) ≡ yields vs
-    → says e (perform e S (write r offset d)) (read r offset (list.length d)) ≡ yields d
+    → says e (perform e S (write r offset d)) (read r offset (length d)) ≡ yields d
 unfolding lengthOf
 bytes-then e p S r offset d vs h =
     let (b, b′, at, stays, fits, bytes, slots, c) = write-turns e p S r offset d vs h in
     let S′ = perform e S (write r offset d) in
-    let (bs, g, m) = made-alive e S S′ 1 (b ∷ []) b′ (cellsOf b) (cellsOf b′) c in
-    let long : lengthOf b′ ≡ lengthOf b = ap list.length bytes ∙ pasted-length offset d (contentOf b) fits in
-    let says-so = gives-bytes e p S′ bs b′ g m offset (list.length d) (omega arith) in
-    let same : part offset (list.length d) (contentOf b′) ≡ d =
-    ap (part offset (list.length d)) bytes ∙ part-pasted offset d (contentOf b) fits in
-    subst (λ (s : ℕ). says e S′ (read s offset (list.length d)) ≡ yields d) stays (says-so ∙ ap yields same)
+    let g = made-alive e p S S′ 1 (b ∷ []) b′ (cellsOf b) (cellsOf b′) c in
+    let long : lengthOf b′ ≡ lengthOf b = ap length bytes ∙ pasted-length offset d (contentOf b) fits in
+    let says-so = gives-bytes e p S′ (rootOf b′) b′ g offset (length d) (omega arith) in
+    let same : part offset (length d) (contentOf b′) ≡ d =
+    ap (part offset (length d)) bytes ∙ part-pasted offset d (contentOf b) fits in
+    subst (λ (s : ℕ). says e S′ (read s offset (length d)) ≡ yields d) stays (says-so ∙ ap yields same)
+
+-- what a read says is what it leaves in the lent output
+read-filled : (e : Edition) (S : Store) (r offset size : ℕ) (d : List ℕ) → says e S (read r offset size) ≡ yields d → (x : Finished) (out out′ : List ℕ)
+    → Reads (readCall e (S .pool) (S .records) r offset size) x out out′ → out′ ≡ d
+unfolding readOut
+read-filled e S r offset size d h x out out′ a =
+    let (v, cs, q, same) = said-done allBytes (readCall e (S .pool) (S .records) r offset size) d (sym (says-read e S r offset size) ∙ h) in
+    a .output ∙ ap (λ o. readOut o out) q ∙ same
 
 -- each moment of a run
 moment-passes : (e : Edition) → Proper e → (S : Store) → sized e (S .pool) (S .records) ≡ true → (calls : List Call) (M : Store)
@@ -98,16 +108,16 @@ moment-passes e p S h calls M m =
 
 -- after all of its calls: its live slots
 end-live : (e : Edition) → Proper e → (S : Store) → sized e (S .pool) (S .records) ≡ true → (calls : List Call) (M : Store)
-    → M ≡ list.getD (run e S calls) (list.length calls) S
-    → list.length (live e (slotsAt e M) (M .pool) (M .records)) ≡ blocksOf e (bookOf e S calls)
+    → M ≡ getD (run e S calls) (length calls) S
+    → length (live e (slotsAt e M) (M .pool) (M .records)) ≡ blocksOf e (bookOf e S calls)
 end-live e p S h calls M q =
-    run-live e p S h calls (list.length calls) (omega arith) M S q ∙ ap (λ (l : List Call). blocksOf e (bookOf e S l)) (take-length calls)
+    run-live e p S h calls (length calls) (omega arith) M S q ∙ ap (λ (l : List Call). blocksOf e (bookOf e S l)) (take-length calls)
 
 -- and its audit
 end-audit : (e : Edition) → Proper e → (S : Store) → sized e (S .pool) (S .records) ≡ true → (calls : List Call) (M : Store)
-    → M ≡ list.getD (run e S calls) (list.length calls) S → says e M audit ≡ yields (blocksOf e (bookOf e S calls) ∷ [])
-unfolding says saidBy
-end-audit e p S h calls M q = ap (saidBy (λ n. n ∷ [])) (run-end e p S h calls M S q)
+    → M ≡ getD (run e S calls) (length calls) S → says e M audit ≡ yields (blocksOf e (bookOf e S calls) ∷ [])
+unfolding saidBy
+end-audit e p S h calls M q = says-audit e M ∙ ap (saidBy oneNumber) (run-end e p S h calls M S q)
 
 -- demand two
 pub two : (e : Edition) → Proper e → DemandTwo e
@@ -121,6 +131,9 @@ two e p = record {
   gives-length = gives-length e p;
   gives-bytes = gives-bytes e p;
   gives-leaf = gives-leaf e p;
+  filled = read-filled e;
+  alive = λ S bs b g m. is-alive e p S bs g b m;
+  counted = gives-count e p;
   created = create-turns e p;
   wrote = write-turns e p;
   resized = resize-turns e p;

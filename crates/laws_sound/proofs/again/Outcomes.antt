@@ -6,9 +6,9 @@ use mathlib.Core.List.{List, [], _∷_, _++_}
 use Prim.Native.Nat.{ℕ, zero, suc, _+_, _-_, _*_, _/_, _%_, _≤_, _<_}
 use native.Mathlib.Nat.{div-add-mod}
 use native.Mathlib.Omega.{arith}
-use borrow.Author.Tests.{eqb-true, leb-true, ltb-true, not-false, lt-ltb, eq-eqb}
+use borrow.Author.Tests.{eqb-true, leb-true, ltb-true, not-false}
 use lib.Dec.{eqb, leb, ltb}
-use lib.ListN.{length, replicate, drop}
+use lib.ListN.{length, replicate}
 use Rattle.meaning.specs.declared.Edition.{Edition}
 use Rattle.meaning.specs.declared.Refusal.{Refusal}
 use Rattle.meaning.specs.Lists.{pick, both, range, all}
@@ -19,13 +19,13 @@ use Rattle.meaning.specs.Refusals.{at}
 use Rattle.meaning.specs.Walk.{Found, fault, fine, fromRoot, blobCheck, poolCheck}
 use Rattle.meaning.specs.Change.{Change}
 use Rattle.meaning.specs.Calls.{Outcome, refused, done, refuseIf, afterCheck, slotsIn, sized, refuseBadRecord, opened, withBlob, rooted, changing}
-use Rattle.meaning.specs.Calls.{reading, refuseWorn}
-use Rattle.laws.proofs.Inversions.{by-test, both-true, true-both}
-use Rattle.laws_resize.proofs.resizing.SlotCounts.{times, times-append, times-cons}
-use Rattle.laws_sound.proofs.sound.TimesListed.{range-has, Each, each-none, each-more, marked, no-flag, times-same}
+use Rattle.meaning.specs.Calls.{refuseWorn}
+use Rattle.laws.proofs.Inversions.{by-test, both-true}
+use Rattle.laws_resize.proofs.resizing.SlotCounts.{times, times-append}
+use Rattle.laws_sound.proofs.sound.TimesListed.{range-has, Each, each-none, each-more, marked, no-flag}
 use Rattle.laws_sound.proofs.sound.Cells.{every-apart}
-use Rattle.laws_sound.proofs.sound.Blobs.{Lies, lies-walk, lies-within}
-use Rattle.laws_sound.proofs.sound.Pools.{allSlots, all-append, all-cons, Pool, pool-found, slots-root, pool-passes}
+use Rattle.laws_sound.proofs.sound.Blobs.{Lies, lies-walk}
+use Rattle.laws_sound.proofs.sound.Pools.{allSlots, all-append, all-cons, Pool, pool-found}
 use Rattle.laws_sound.proofs.sound.Replaced.{Parted}
 use Rattle.laws_sound.proofs.again.Parting.{apart-at, one-here, before-other, blob-met}
 
@@ -172,29 +172,6 @@ among-walk e N P R r bs m =
     ap (fromRoot e N P R (replicate N 0)) (sym (m .at))
     ∙ lies-walk e N P R (replicate N 0) (m .blob) (among-lies e N P R (m .before) (m .after) (m .blob) (m .was))
     (λ x. omega (arith, once x, no-flag N x))
-
--- its root is one
-among-root : (e : Edition) (N : ℕ) (P R : List ℕ) (r : ℕ) (bs : List Blob) → Among e N P R r bs → both (ltb r N) (eqb (state R r) 2) ≡ true
-among-root e N P R r bs m =
-    let l = among-lies e N P R (m .before) (m .after) (m .blob) (m .was) in
-    let own : 1 ≤ times r (slotsOf (m .blob)) =
-    rw (slots-root (m .blob), m .at) (omega (arith, times-cons r r (drop 1 (slotsOf (m .blob))), times-same r r refl)) in
-    true-both (ltb r N) (eqb (state R r) 2) (lt-ltb r N (lies-within e N P R (m .blob) l r own))
-    (eq-eqb (state R r) 2 (ap (state R) (sym (m .at)) ∙ l .root))
-
--- so a call that names that root is what it does with that blob: one that reads
-pub among-reading : {A : Type 0} (e : Edition) (N : ℕ) (P R : List ℕ) (r : ℕ) (bs : List Blob) (k : Blob → Outcome A) → (m : Among e N P R r bs)
-    → reading e N P R r k ≡ k (m .blob)
-unfolding reading rooted refuseIf afterCheck
-among-reading e N P R r bs k m = rw (among-root e N P R r bs m) (ap (λ f. afterCheck f k) (among-walk e N P R r bs m))
-
--- and one that changes
-pub among-changing : {A : Type 0} (e : Edition) (N : ℕ) (P R : List ℕ) (r : ℕ) (bs : List Blob) (k : Blob → Outcome A) → (m : Among e N P R r bs)
-    → changing e N P R r k ≡ k (m .blob)
-unfolding changing rooted refuseIf afterCheck
-among-changing e N P R r bs k m =
-    let pool : Pool e N P R bs = subst (Pool e N P R) (sym (m .all)) (m .was) in
-    rw (among-root e N P R r bs m) (ap (λ f. afterCheck f (withBlob r k)) (pool-passes e N P R bs pool) ∙ among-met e N P R r bs k m)
 
 -- a changing call that is done: its blob stood in the pool between others
 pub record Changing {A : Type 0} (e : Edition) (N : ℕ) (P R : List ℕ) (r : ℕ) (k : Blob → Outcome A) (a : A) (cs : List Change) : Type 0 where

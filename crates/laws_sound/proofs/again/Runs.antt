@@ -18,9 +18,9 @@ use Rattle.meaning.specs.Walk.{fine, poolCheck}
 use Rattle.meaning.specs.Change.{Store, changedBy}
 use Rattle.meaning.specs.Calls.{Outcome, refused, done, afterCheck, slotsIn, sized, live, auditCall, auditIn, auditOn, after, afterWipe}
 use Rattle.meaning.specs.Calls.{createCall, writeCall, resizeCall, deleteCall, lengthCall, readCall, showCall}
-use Rattle.meaning.specs.Answers.{Said, yields, refuses}
+use Rattle.meaning.specs.Answers.{Said, yields, refuses, createAnswer, createdSaid, changeAnswer, changedSaid}
 use Rattle.meaning.specs.Run as run
-use Rattle.meaning.specs.Run.{Call, saidBy, says, perform, moments, without, noted, bookFrom, bookOf, blocksOf}
+use Rattle.meaning.specs.Run.{Call, says, perform, moments, without, noted, bookFrom, bookOf, blocksOf}
 use Rattle.laws.proofs.Inversions.{by-test}
 use Rattle.laws.proofs.Parts.{pasted-length}
 use Rattle.laws.proofs.Codec.{padded-length}
@@ -176,15 +176,15 @@ module _ (e : Edition) (S : Store) (book : List (ℕ × ℕ)) (k : Booked e S bo
   module _ (p : Proper e) where
     -- create, by its outcome
     create-booked : (o : Outcome ℕ) → createCall e (S .pool) (S .records) ≡ o
-        → Booked e (after e S o) (noted run.create (saidBy (λ s. s ∷ []) o) book)
-    unfolding after saidBy noted
+        → Booked e (after e S o) (noted run.create (createdSaid (createAnswer o)) book)
+    unfolding after createAnswer createdSaid noted
     create-booked (refused r) h = k
     create-booked (done s cs) h = made-booked (changedBy e cs S) s (create-done e p S h)
 
     -- write
     write-booked : (r offset : ℕ) (d : List ℕ) (o : Outcome (Unit {0})) → writeCall e (S .pool) (S .records) r offset d ≡ o
-        → Booked e (after e S o) (noted (run.write r offset d) (saidBy (λ v. []) o) book)
-    unfolding after saidBy noted lengthOf
+        → Booked e (after e S o) (noted (run.write r offset d) (changedSaid (changeAnswer o)) book)
+    unfolding after changeAnswer changedSaid noted lengthOf
     write-booked r offset d (refused q) h = k
     write-booked r offset d (done v cs) h =
         let c = write-done e p S r offset d h in
@@ -192,8 +192,8 @@ module _ (e : Edition) (S : Store) (book : List (ℕ × ℕ)) (k : Booked e S bo
 
     -- resize
     resize-booked : (r len : ℕ) (o : Outcome (Unit {0})) → resizeCall e (S .pool) (S .records) r len ≡ o
-        → Booked e (after e S o) (noted (run.resize r len) (saidBy (λ v. []) o) book)
-    unfolding after saidBy noted lengthOf
+        → Booked e (after e S o) (noted (run.resize r len) (changedSaid (changeAnswer o)) book)
+    unfolding after changeAnswer changedSaid noted lengthOf
     resize-booked r len (refused q) h = k
     resize-booked r len (done v cs) h =
         let c = resize-done e p S r len h in
@@ -201,8 +201,8 @@ module _ (e : Edition) (S : Store) (book : List (ℕ × ℕ)) (k : Booked e S bo
 
     -- delete
     delete-booked : (r : ℕ) (o : Outcome (Unit {0})) → deleteCall e (S .pool) (S .records) r ≡ o
-        → Booked e (after e S o) (noted (run.delete r) (saidBy (λ v. []) o) book)
-    unfolding after saidBy noted
+        → Booked e (after e S o) (noted (run.delete r) (changedSaid (changeAnswer o)) book)
+    unfolding after changeAnswer changedSaid noted
     delete-booked r (refused q) h = k
     delete-booked r (done v cs) h = went-booked (changedBy e cs S) r (delete-done e p S r h)
 
