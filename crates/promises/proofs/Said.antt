@@ -19,16 +19,19 @@ unfoldable pub saidBy : {A : Type 0} → (A → List ℕ) → Outcome A → Said
 saidBy values (refused r) = refuses r
 saidBy values (done a cs) = yields (values a)
 
--- the values of a slot, a length or a count; of a change; of a read; of a leaf shown: where its data bytes start, how many they are, and the bytes
+-- the values of a slot, a length or a count
 abbrev pub oneNumber : ℕ → List ℕ
 oneNumber n = n ∷ []
 
+-- of a change
 abbrev pub noNumber : Unit {0} → List ℕ
 noNumber v = []
 
+-- of bytes read
 abbrev pub allBytes : List ℕ → List ℕ
 allBytes d = d
 
+-- of a leaf shown, which is in slot v .0 with v .1 data bytes: where they start in the pool, how many they are, and the bytes
 abbrev pub leafShown : Edition → (P : List ℕ) → ℕ × ℕ → List ℕ
 leafShown e P v = (e .size * v .0 + 16) ∷ v .1 ∷ part (e .size * v .0 + 16) (v .1) P
 

@@ -40,8 +40,8 @@ freeAt e S = usable e (slotsAt e S) (S .pool) (S .records)
 abbrev pub newAt : Edition → Store → (len : ℕ) → Blob → ℕ
 newAt e S len b = newBlocks e (slotsAt e S) (S .pool) (S .records) len b
 
--- DEMAND ONE. Any pool bytes, records, offsets and lengths may come in; every call ends with its result or with a refusal from the table, given
--- exactly when the table says, and a refused call changes no byte.
+-- DEMAND ONE. Any pool bytes, records, offsets and lengths may come in; every call ends with its result or with a refusal from document 01's table,
+-- given exactly when the table says, and a refused call changes no byte.
 
 -- the root that a call names, if it names one
 unfoldable pub named : Call → List ℕ
