@@ -9,7 +9,7 @@ use native.Mathlib.Omega.{arith}
 use lib.ListN.{length, getD, take, drop, replicate, length-append, length-take, length-drop, length-replicate, take-append-drop, getD-replicate}
 use lib.Seq.{take-all, take-at, drop-at, take-add, drop-drop, drop-cons, take-append-add, take-append-seam, length-take-le, getD-take, getD-drop}
 use Rattle.meaning.specs.declared.Edition.{Edition}
-use Rattle.meaning.specs.declared.Checked.the-variants.{Passed, Faulty}
+use Rattle.meaning.specs.declared.Checked.the-variants.{Passed}
 use Rattle.meaning.specs.Lists.{pick, part, joined, number, bytes, padded, fours, zeros, sameList}
 use Rattle.meaning.specs.Edition.{Proper}
 use Rattle.meaning.specs.Bytes.{Cell, itemBytes, header, blockBytes, encoded, heightOf, countOf, ownSlot, versionOf, dataOf, childrenOf}
@@ -17,8 +17,8 @@ use Rattle.meaning.specs.Bytes.{recordWith, recordOf, stateOf, recordedOf, reco
 use Rattle.meaning.specs.Shape.{leastCount, mostCount}
 use Rattle.meaning.specs.Refusals.{at}
 use Rattle.meaning.specs.Walk.{flaw, used, blockCheck}
-use Rattle.laws.proofs.Numbers.{part-length, part-front, bytes-length, bytes-small, number-bytes, bytes-number}
-use Rattle.laws.proofs.Checks.{check-flaw, used-fits}
+use Rattle.laws.proofs.Numbers.{part-length, part-front, bytes-length, number-bytes, bytes-number}
+use Rattle.laws.proofs.Checks.{used-fits}
 use Rattle.laws.proofs.Inversions.{by-test, same-list, same-self, zeros-list, list-zeros, passed-sound, sound-passed, sound-record, record-sound}
 
 -- the front of a list of zeros
@@ -99,12 +99,6 @@ pub part-small : (at n : ℕ) (l : List ℕ) {m : ℕ} → ((i : ℕ) → getD l
 unfolding part
 part-small at n l h = take-small n (drop at l) (drop-small at l h)
 
--- elements of two lists in a row are below what both are below
-pub append-small : (a b : List ℕ) {m : ℕ} → ((i : ℕ) → getD a i 0 < m) → ((i : ℕ) → getD b i 0 < m) → (i : ℕ) → getD (a ++ b) i 0 < m
-append-small [] b f g i = g i
-append-small (x ∷ a) b f g zero = f 0
-append-small (x ∷ a) b f g (suc i) = append-small a b (λ j. f (suc j)) g i
-
 -- bytes below 256 whose number is n are n's lowest bytes
 pub bytes-of : (k n : ℕ) (l : List ℕ) → length l ≡ k → number l ≡ n → ((i : ℕ) → getD l i 0 < 256) → bytes k n ≡ l
 bytes-of k n l long is h = rw (← long, ← is) (bytes-number l h)
@@ -118,41 +112,6 @@ fours-written (suc n) l k h =
     rw (q, take-add 4 (4 * n) l)
     (ap₂ _++_ (bytes-of 4 (number (take 4 l)) (take 4 l) (length-take-le 4 l (omega arith)) refl (take-small 4 l h))
     (fours-written n (drop 4 l) (rw length-drop (omega arith)) (drop-small 4 l h)))
-
--- each byte of a padded list is one of its own or 0
-pub padded-small : (n : ℕ) (l : List ℕ) {m : ℕ} → ((i : ℕ) → getD l i 0 < m) → (i : ℕ) → getD (padded n l) i 0 < m
-unfolding padded
-padded-small n l {m} h = take-small n (l ++ replicate n 0) (append-small l (replicate n 0) h (blank n (h (length l))))
-  where
-    blank : (k : ℕ) → getD l (length l) 0 < m → (i : ℕ) → getD (replicate k 0) i 0 < m
-    blank zero q i = omega arith
-    blank (suc k) q zero = omega arith
-    blank (suc k) q (suc i) = blank k q i
-
--- each byte of slot numbers of four bytes each is below 256
-fours-small : (row : List ℕ) (i : ℕ) → getD (joined (map (bytes 4) row)) i 0 < 256
-unfolding joined
-fours-small [] i = omega arith
-fours-small (x ∷ row) i = append-small (bytes 4 x) (joined (map (bytes 4) row)) (bytes-small 4 x) (fours-small row) i
-
--- a written block is bytes: mark, height, count and a leaf's data have to be
-pub encoded-small : (e : Edition) (c : Cell) (s v : ℕ) → ((i : ℕ) → getD (e .mark) i 0 < 256) → c .height < 256 → length (c .items) < 256
-    → (c .height ≡ 0 → (i : ℕ) → getD (c .items) i 0 < 256) → (i : ℕ) → getD (encoded e c s v) i 0 < 256
-unfolding encoded blockBytes header
-encoded-small e c s v mark high many leaf =
-    padded-small (e .size) _
-    (append-small (header e (c .height) (length (c .items)) s v) (itemBytes (c .height) (c .items))
-    (append-small (e .mark) _ mark (two (bytes 4 s ++ bytes 8 v) (append-small (bytes 4 s) (bytes 8 v) (bytes-small 4 s) (bytes-small 8 v))))
-    (used-small (c .height) refl))
-  where
-    two : (l : List ℕ) → ((i : ℕ) → getD l i 0 < 256) → (i : ℕ) → getD (c .height ∷ length (c .items) ∷ l) i 0 < 256
-    two l h zero = high
-    two l h (suc zero) = many
-    two l h (suc (suc i)) = h i
-
-    used-small : (h : ℕ) → c .height ≡ h → (i : ℕ) → getD (itemBytes (c .height) (c .items)) i 0 < 256
-    used-small zero q i = rw (row-leaf (c .height) (c .items) q) (leaf q i)
-    used-small (suc h) q i = rw (row-inner (c .height) (c .items) (omega arith)) (fours-small (c .items) i)
 
 -- what stands in a list of bytes that begins with a header
 record Fields (b m : List ℕ) (h n s v : ℕ) (rest : List ℕ) : Type 0 where
@@ -350,13 +309,6 @@ blank-flaw e p v s =
     by-test (sameList (take 2 b) (e .mark))
     (λ t. absurd (omega (arith, p .solid, ap (λ (l : List ℕ). getD l 0 0) (same-list (take 2 b) (e .mark) t))))
     (λ t. simp t)
-
--- so it does not pass
-pub blank-refused : (e : Edition) → Proper e → (h : ℕ) (root edge : Bool) (v s : ℕ)
-    → blockCheck e h root edge v s (replicate (e .size) 0) ≡ Faulty (at 4 s)
-unfolding at
-blank-refused e p h root edge v s =
-    sym (check-flaw e h root edge v s (replicate (e .size) 0) 4 (sym (blank-flaw e p v s)) (omega arith) (at 4 s) refl)
 
 -- a written record is twelve bytes
 pub record-length : (st v : ℕ) → length (recordOf st v) ≡ 12

@@ -50,6 +50,12 @@ pub true-both : (a b : Bool) → a ≡ true → b ≡ true → both a b ≡ true
 unfolding both
 true-both a b p q = rw (p, q)
 
+-- if the second does not, both do not
+pub both-false : (a : Bool) → both a false ≡ false
+unfolding both
+both-false true = refl
+both-false false = refl
+
 -- two lists that are found the same are the same
 pub same-list : (a b : List ℕ) → sameList a b ≡ true → a ≡ b
 unfolding sameList

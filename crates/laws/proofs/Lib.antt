@@ -7,10 +7,13 @@ pub mod Levels
 pub mod Shapes
 pub mod Checks
 pub mod Inversions
+pub mod Every
+pub mod Ranges
 pub mod Codec
 pub mod Free
 pub mod Puts
 pub mod Building
+pub mod TreeSlots
 pub mod Roots
 pub mod OneToOne
 pub mod Walked

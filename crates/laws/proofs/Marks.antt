@@ -5,7 +5,7 @@ use mathlib.Core.Bool.{Bool, true}
 use mathlib.Core.List.{List, [], _∷_, map}
 use Prim.Native.Nat.{ℕ, zero, suc, _+_, _*_, _≤_, _<_, min}
 use native.Mathlib.Omega.{arith}
-use lib.ListN.{length, getD, set, replicate, length-append, length-map, length-set}
+use lib.ListN.{length, getD, set, length-append, length-set}
 use Rattle.meaning.specs.declared.Edition.{Edition}
 use Rattle.meaning.specs.declared.Role.{Role}
 use Rattle.meaning.specs.declared.Role.the-variants.{Root, Child}
@@ -13,7 +13,7 @@ use Rattle.meaning.specs.declared.Checked.the-variants.{Passed}
 use Rattle.meaning.specs.Lists.{both, joined}
 use Rattle.meaning.specs.Edition.{Proper}
 use Rattle.meaning.specs.Bytes.{block, heightOf, childrenOf}
-use Rattle.meaning.specs.Tree.{Tree, Blob, cells, leavesOf, cellsOf, slotsOf}
+use Rattle.meaning.specs.Tree.{Tree, Blob, cells, leavesOf, cellsOf}
 use Rattle.meaning.specs.Walk.{linkCheck, fine, isEmpty, visitRow, visit, fromRoot}
 use Rattle.laws.proofs.Totals.{total-ge}
 use Rattle.laws.proofs.Shapes.{shaped-blocks}
@@ -58,16 +58,6 @@ unfolding marks
 marks-all [] = omega arith
 marks-all (zero ∷ l) = omega (arith, marks-all l)
 marks-all (suc x ∷ l) = omega (arith, marks-all l)
-
--- and fewer, if one is not set
-pub marks-fewer : (l : List ℕ) (i : ℕ) → i < length l → getD l i 0 ≡ 0 → marks l < length l
-marks-fewer l i h z = omega (arith, marks-set l i h z, marks-all (set l i 1), length-set l i 1)
-
--- at first none is set
-pub marks-none : (n : ℕ) → marks (replicate n 0) ≡ 0
-unfolding marks
-marks-none zero = refl
-marks-none (suc n) = marks-none n
 
 module _ (e : Edition) (N : ℕ) (P R : List ℕ) where
   -- a visit that went well passed check 1
@@ -115,20 +105,6 @@ module _ (e : Edition) (N : ℕ) (P R : List ℕ) where
       (childrenOf (block e P s)) (set seen s 1) (f .walked) (length-set seen s 1 ∙ all) in
       rw (← f .tree) (r .0, omega (arith, r .1))
 
-  -- a child's visit sets a flag for each block of its tree
-  pub child-marks : (h q : ℕ) (edge : Bool) (seen : List ℕ) (s : ℕ) {t : Tree h} {seen′ : List ℕ}
-      → visit e N P R h (Child q) edge seen s ≡ fine t seen′ → length seen ≡ N
-      → (length seen′ ≡ N) × (marks seen′ ≡ marks seen + length (cells h t))
-  child-marks h q edge seen s v all =
-      let m = visit-marks h (Child q) edge seen s v all in
-      (m .0, fresh q seen s _ _ (visit-link h (Child q) edge seen s v) all (m .1))
-
-  -- a row's visit sets a flag for each block of its trees
-  pub row-marks : (h q : ℕ) (edge : Bool) (cs seen : List ℕ) {ts : List (Tree h)} {seen′ : List ℕ}
-      → visitRow e N P R (visit e N P R h) q edge cs seen ≡ fine ts seen′ → length seen ≡ N
-      → (length seen′ ≡ N) × (marks seen′ ≡ marks seen + length (joined (map (cells h) ts)))
-  row-marks h = rows-marks h (λ q edge seen c t seen′ o. visit-marks h (Child q) edge seen c o)
-
   -- a walk sets its root's flag and one for each other block of the blob
   pub walk-marks : (seen : List ℕ) (r : ℕ) {b : Blob} {seen′ : List ℕ} → fromRoot e N P R seen r ≡ fine b seen′ → length seen ≡ N
       → (length seen′ ≡ N) × (suc (marks seen′) ≡ marks (set seen r 1) + length (cellsOf b))
@@ -137,24 +113,12 @@ module _ (e : Edition) (N : ℕ) (P R : List ℕ) where
       let (t, o, q) = root-found e N P R seen r v in
       rw (← q) (visit-marks (min (heightOf (block e P r)) (e .top)) Root true seen r o all)
 
-  -- from a root that had no flag, one for each block of the blob
-  pub walk-marks-new : (seen : List ℕ) (r : ℕ) {b : Blob} {seen′ : List ℕ} → fromRoot e N P R seen r ≡ fine b seen′ → length seen ≡ N
-      → r < N → getD seen r 0 ≡ 0 → marks seen′ ≡ marks seen + length (cellsOf b)
-  walk-marks-new seen r v all within new =
-      omega (arith, walk-marks seen r v all .1, marks-set seen r (omega arith) new)
-
   -- a blob has no more blocks than the pool has slots
   pub walk-few-blocks : (seen : List ℕ) (r : ℕ) {b : Blob} {seen′ : List ℕ} → fromRoot e N P R seen r ≡ fine b seen′ → length seen ≡ N
       → r < N → length (cellsOf b) ≤ N
   walk-few-blocks seen r {b} {seen′} v all within =
       let m = walk-marks seen r v all in
       omega (arith, m .0, m .1, marks-some seen r (omega arith), marks-all seen′)
-
-  -- and names no more slots
-  pub walk-few-slots : (seen : List ℕ) (r : ℕ) {b : Blob} {seen′ : List ℕ} → fromRoot e N P R seen r ≡ fine b seen′ → length seen ≡ N
-      → r < N → length (slotsOf b) ≤ N
-  unfolding slotsOf
-  walk-few-slots seen r {b} v all within = rw (length-map (cellsOf b) (λ c. c .0)) (walk-few-blocks seen r v all within)
 
 -- and has no more leaves
 pub walk-few : (e : Edition) → Proper e → (N : ℕ) (P R : List ℕ) → length P ≡ e .size * N → (seen : List ℕ) (r : ℕ) {b : Blob} {seen′ : List ℕ}

@@ -104,21 +104,6 @@ number-bytes (suc k) n h =
 pub record OfBytes (l : List ℕ) : Type 0 where
   pub small : (i : ℕ) → getD l i 0 < 256
 
--- every byte of a number's bytes is below 256
-pub bytes-small : (k n i : ℕ) → getD (bytes k n) i 0 < 256
-unfolding bytes
-bytes-small zero n i = omega arith
-bytes-small (suc k) n zero = omega arith
-bytes-small (suc k) n (suc i) = bytes-small k (n / 256) i
-
--- the number in bytes below 256 is below 256 to the power of how many they are
-pub number-small : (l : List ℕ) → ((i : ℕ) → getD l i 0 < 256) → number l < 256 ^ length l
-unfolding number
-number-small [] h = omega arith
-number-small (x ∷ xs) h =
-    let pw : 256 ^ suc (length xs) ≡ 256 ^ length xs * 256 = pow-suc 256 (length xs) in
-    omega (arith, number-small xs (λ i. h (suc i)), h 0)
-
 -- bytes below 256 are the lowest bytes of their number
 pub bytes-number : (l : List ℕ) → ((i : ℕ) → getD l i 0 < 256) → bytes (length l) (number l) ≡ l
 unfolding number bytes

@@ -6,7 +6,7 @@ use mathlib.Core.Logic.{_⊎_, inl, inr}
 use mathlib.Core.Bool.{Bool, true, false}
 use mathlib.Core.List.{List, [], _∷_, _++_, map, append-assoc, append-nil, map-append}
 use Prim.Native.Nat.{ℕ, zero, suc, _+_, _-_, _*_, _/_, _%_, _^_, _≤_, _<_}
-use native.Mathlib.Nat.{add-zero, mul-zero, mul-suc, mul-comm, mod-lt, div-add-mod, div-lt-iff-lt-mul, mul-le-mul-left}
+use native.Mathlib.Nat.{add-zero, mul-zero, mul-suc, mul-comm, div-add-mod, div-lt-iff-lt-mul, mul-le-mul-left}
 use native.Mathlib.Omega.{arith}
 use lib.ListN.{length, getD, take, drop, length-append, length-drop}
 use borrow.Author.Tests.{ltb-true, ltb-false}
@@ -222,10 +222,6 @@ module _ (e : Edition) (some : 1 ≤ e .leaf) (two : 2 ≤ e .fan) (b : Blob) (s
   pub leaf-most : (i : ℕ) → i < length (leavesOf b) → length (getD (leavesOf b) i (0, []) .1) ≤ e .leaf
   leaf-most = shaped-filled e some two b shaped .most
 
-  -- a leaf that is not the only one has a byte or more
-  pub leaf-least : 2 ≤ length (leavesOf b) → (i : ℕ) → i < length (leavesOf b) → 1 ≤ length (getD (leavesOf b) i (0, []) .1)
-  leaf-least = shaped-filled e some two b shaped .least
-
   -- a blob has a leaf
   pub leaf-some : 1 ≤ length (leavesOf b)
   leaf-some = shaped-filled e some two b shaped .some
@@ -280,10 +276,6 @@ module _ (e : Edition) (some : 1 ≤ e .leaf) (two : 2 ≤ e .fan) (b : Blob) (s
       by-test (ltb (suc i) (length (leavesOf b)))
       (λ t. omega (arith, leaf-full i (ltb-true (suc i) (length (leavesOf b)) t)))
       (λ t. omega (arith, length-by-last i (omega (arith, ltb-false (suc i) (length (leavesOf b)) t)), div-add-mod p (e .leaf)))
-
-  -- a position is in its leaf's bytes
-  pub place-within : (p : ℕ) → p < lengthOf b → p % e .leaf < length (getD (leavesOf b) (p / e .leaf) (0, []) .1)
-  place-within p h = omega (arith, stretch-inside p 1 h (omega (arith, mod-lt p some)) (omega arith))
 
   -- such a stretch of the content is one of the leaf's bytes
   pub stretch-read : (p m : ℕ) → p < lengthOf b → p % e .leaf + m ≤ e .leaf → p + m ≤ lengthOf b

@@ -4,9 +4,8 @@
 use mathlib.Core.Path.{_≡_, refl, ap, ap₂, _∙_, sym}
 use mathlib.Core.Logic.{_⊎_, inl, inr}
 use mathlib.Core.Bool.{Bool, true, false}
-use mathlib.Core.List.{List, [], _∷_, _++_, map, List·Memᴰ, List·Memᴰ·head, List·Memᴰ·tail, List·Memᴰ·not-nil, List·Memᴰ·cases-cons}
-use Prim.Native.Nat.{ℕ, zero, suc, _+_, _≤_, _<_, min}
-use native.Mathlib.Nat.{add-zero, add-suc, zero-add, suc-add}
+use mathlib.Core.List.{List, [], _∷_, map, List·Memᴰ, List·Memᴰ·head, List·Memᴰ·tail, List·Memᴰ·not-nil, List·Memᴰ·cases-cons}
+use Prim.Native.Nat.{ℕ, zero, suc, _<_, min}
 use native.Mathlib.Omega.{arith}
 use borrow.Author.Tests.{eqb-true, eqb-false, eq-eqb}
 use lib.Dec.{eqb}
@@ -19,39 +18,9 @@ use Rattle.meaning.specs.declared.Role.{Role}
 use Rattle.meaning.specs.declared.Role.the-variants.{Root}
 use Rattle.meaning.specs.Walk.{Found, fine, oneVisit, visitRow, visit, fromRoot, roots, closing, poolCheck}
 use Rattle.meaning.specs.Calls.{Outcome, withBlob}
+use Rattle.laws.proofs.Ranges.{in-range, in-filter}
 use Rattle.laws.proofs.Inversions.{by-test, andThen-fine, andThen-turned, andThen-joined, passing-fine, fine-same}
 
--- a number below the end of a range is in it
-pub in-range : (from n r : ℕ) → from ≤ r → r < from + n → List·Memᴰ r (range from n)
-unfolding range
-in-range from zero r lo hi = absurd (omega arith)
-in-range from (suc n) r lo hi =
-    by-test (eqb r from)
-    (λ t. List·Memᴰ·head (eqb-true r from t))
-    (λ t. let other = eqb-false r from t in
-    List·Memᴰ·tail (in-range (suc from) n r (omega arith) (omega arith)))
-
--- what is in a list and passes the test is in the filtered list
-pub in-filter : {A : Type 0} (p : A → Bool) {x : A} {l : List A} → p x ≡ true → List·Memᴰ x l → List·Memᴰ x (filter p l)
-unfolding filter pick
-in-filter p h (List·Memᴰ·head {x = y} {xs = l} q) = rw (sym (ap p q) ∙ h) (List·Memᴰ·head q)
-in-filter p h (List·Memᴰ·tail {x = y} {xs = l} m) =
-    by-test (p y) (λ t. rw t (List·Memᴰ·tail (in-filter p h m))) (λ t. rw t (in-filter p h m))
-
--- a filtered list is the filtered parts
-pub filter-append : {A : Type 0} (p : A → Bool) (xs ys : List A) → filter p (xs ++ ys) ≡ filter p xs ++ filter p ys
-unfolding filter pick
-filter-append p [] ys = refl
-filter-append p (x ∷ xs) ys =
-    by-test (p x) (λ t. rw t (ap (λ l. x ∷ l) (filter-append p xs ys))) (λ t. rw t (filter-append p xs ys))
-
--- a range is two in a row
-pub range-append : (from k n : ℕ) → range from (k + n) ≡ range from k ++ range (from + k) n
-unfolding range
-range-append from zero n = rw (zero-add, add-zero)
-range-append from (suc k) n = rw (suc-add k n, add-suc from k) (ap (λ l. from ∷ l) (range-append (suc from) k n ∙ rw suc-add))
-
--- walks from slots of one pool
 module _ (e : Edition) (N : ℕ) (P R : List ℕ) where
   -- a visit of slot s finds a tree of slot s
   pub visit-slot : (h : ℕ) (role : Role) (edge : Bool) (seen : List ℕ) (s : ℕ) {t : Tree h} {seen′ : List ℕ}

@@ -5,7 +5,7 @@ use mathlib.Core.Path.{_≡_, refl, ap, ap₂, _∙_, sym, subst}
 use mathlib.Core.Logic.{⊎-elim}
 use mathlib.Core.Bool.{Bool, true, false}
 use mathlib.Core.List.{List, [], _∷_, _++_, map, List·Memᴰ, List·Memᴰ·not-nil, List·Memᴰ·head, List·Memᴰ·tail}
-use mathlib.Core.List.{List·Memᴰ·append-cases, List·Memᴰ·eq-of-singleton, Memᴰ·of-map}
+use mathlib.Core.List.{List·Memᴰ·append-cases, List·Memᴰ·eq-of-singleton}
 use Prim.Native.Nat.{ℕ, zero, suc, _+_, _*_, _≤_, _<_, min}
 use native.Mathlib.Nat.{mul-le-mul-left}
 use native.Mathlib.Omega.{arith}
@@ -18,7 +18,7 @@ use Rattle.meaning.specs.Lists.{both, joined}
 use Rattle.meaning.specs.Edition.{Proper}
 use Rattle.meaning.specs.Bytes.{block, heightOf, countOf, dataOf, childrenOf, recorded}
 use Rattle.meaning.specs.Tree.{Tree, Blob, leaves, leavesOf}
-use Rattle.meaning.specs.Shape.{leastCount, mostCount, InRow, ShapedTree, Shaped}
+use Rattle.meaning.specs.Shape.{mostCount, InRow, ShapedTree, Shaped}
 use Rattle.meaning.specs.Walk.{used, isRoot, linkCheck, Found, fine, isEmpty, oneVisit, visitRow, visit, fromRoot}
 use Rattle.laws.proofs.Numbers.{part-length}
 use Rattle.laws.proofs.Checks.{used-fits}
@@ -194,12 +194,6 @@ module _ (e : Edition) (p : Proper e) (N : ℕ) (P R : List ℕ) (whole : length
       let n = row-length e p N P whole (suc h) (isRoot role) edge (recorded R s) s within (f .sound) in
       rw (← f .tree) (omega (arith, r .0, f .sound .least), omega (arith, r .0, f .sound .most), r .1)
 
-  -- so has a row
-  pub row-shaped : (h q : ℕ) (edge : Bool) (cs seen : List ℕ) {ts : List (Tree h)} {seen′ : List ℕ}
-      → visitRow e N P R (visit e N P R h) q edge cs seen ≡ fine ts seen′ → (length ts ≡ length cs) × InRow (ShapedTree e h false) edge ts
-  unfolding isRoot
-  row-shaped h = rows-shaped h (λ q edge seen c t seen′ o. visit-shaped h (Child q) edge seen c o (λ z. never (sym z)))
-
   -- and so has a blob
   pub walk-shaped : (seen : List ℕ) (r : ℕ) {b : Blob} {seen′ : List ℕ} → fromRoot e N P R seen r ≡ fine b seen′ → r < N → Shaped e b
   unfolding Shaped isRoot
@@ -282,13 +276,6 @@ module _ (e : Edition) (p : Proper e) (N : ℕ) (P R : List ℕ) (whole : length
     pub walk-leaves : leavesOf b ≡ map (leafIn e P) (leafSlots b)
     unfolding leafSlots
     walk-leaves = here-map e N P (leavesOf b) walk-here
-
-    -- each leaf's slot holds a leaf
-    pub walk-leaf : (s : ℕ) → List·Memᴰ s (leafSlots b) → LeafBlock e N P s
-    unfolding leafSlots
-    walk-leaf s m =
-        let (l, i, q) = Memᴰ·of-map (λ (l : ℕ × List ℕ). l .0) (leavesOf b) m in
-        subst (LeafBlock e N P) q (walk-here l i .block)
 
     -- the i-th leaf's bytes are those in the i-th leaf's slot, which holds a leaf
     pub walk-leaf-at : (i : ℕ) → i < length (leafSlots b)

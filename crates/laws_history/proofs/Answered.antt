@@ -4,7 +4,7 @@ use mathlib.Core.Path.{_≡_, refl, sym, ap, subst, _∙_}
 use mathlib.Core.Logic.{_⊎_, inl, inr, ⊎-elim}
 use mathlib.Core.Bool.{true}
 use mathlib.Core.List.{List, [], _∷_, _++_}
-use Prim.Native.Nat.{ℕ, _+_, _*_, _≤_, _<_}
+use Prim.Native.Nat.{ℕ, _≤_, _<_}
 use native.Mathlib.Omega.{arith}
 use borrow.Author.Tests.{eq-eqb, lt-ltb}
 use lib.ListN.{length}
@@ -17,7 +17,7 @@ use Rattle.meaning.specs.Refusals.{at}
 use Rattle.meaning.specs.Walk.{fine, blobCheck}
 use Rattle.meaning.specs.Calls.{Outcome, refused, refuseIf, afterCheck, slotsIn, refuseBadRecord, opened, rooted, reading}
 use Rattle.laws.proofs.Inversions.{by-test, same-list}
-use Rattle.laws_history.proofs.WalkOrder.{Each, each-right, range-each}
+use Rattle.laws.proofs.Every.{Every, every-right, range-every}
 use Rattle.laws_history.proofs.Local.{unlike, Same, otherFlaw, Told, firstOther, other-none, other-first, other-number, check-other}
 use Rattle.laws_history.proofs.CallSteps.{slots-in}
 use Rattle.laws_history.proofs.Started.{Sized, so-sized, other-sized}
@@ -28,11 +28,11 @@ pub record FirstOther (e : Edition) (P P* : List ℕ) (slots : List ℕ) : Type 
   pub slot : ℕ
   pub later : List ℕ
   pub split : slots ≡ before ++ (slot ∷ later)
-  pub same : Each (Same e P P*) before
+  pub same : Every (Same e P P*) before
   pub differs : Same e P P* slot → ⊥
 
 -- each of them is as it was, or there is a first that is not
-pub each-or-first : (e : Edition) (P P* : List ℕ) (xs : List ℕ) → Each (Same e P P*) xs ⊎ FirstOther e P P* xs
+pub each-or-first : (e : Edition) (P P* : List ℕ) (xs : List ℕ) → Every (Same e P P*) xs ⊎ FirstOther e P P* xs
 each-or-first e P P* [] = inl tt
 each-or-first e P P* (x ∷ xs) =
     by-test (sameList (block e P* x) (block e P x))
@@ -70,19 +70,19 @@ pub record Stopped {A : Type 0} (e : Edition) (P P* R slots : List ℕ) (o : Out
 
 -- a call on a blob, whose outcome is o, has outcome o* on the other pool
 pub record Exact {A : Type 0} (e : Edition) (P P* R : List ℕ) (b : Blob) (o o* : Outcome A) : Type 0 where
-  pub same : Each (Same e P P*) (slotsOf b) → o* ≡ o
-  pub only : o* ≡ o → Each (Same e P P*) (slotsOf b)
-  pub other : (Each (Same e P P*) (slotsOf b) → ⊥) → Stopped e P P* R (slotsOf b) o*
+  pub same : Every (Same e P P*) (slotsOf b) → o* ≡ o
+  pub only : o* ≡ o → Every (Same e P P*) (slotsOf b)
+  pub other : (Every (Same e P P*) (slotsOf b) → ⊥) → Stopped e P P* R (slotsOf b) o*
 
 -- behind a check of such a blob
-module _ {A : Type 0} (e : Edition) (P P* R : List ℕ) (b : Blob) (seen : List ℕ) (told : Each (Told e P P* R) (slotsOf b)) (k : Blob → Outcome A)
+module _ {A : Type 0} (e : Edition) (P P* R : List ℕ) (b : Blob) (seen : List ℕ) (told : Every (Told e P P* R) (slotsOf b)) (k : Blob → Outcome A)
     (unnamed : (n s : ℕ) → k b ≡ refused (at n s) → ⊥) where
   -- stopped at the first slot that is not as it was
   stopped : FirstOther e P P* (slotsOf b) → Stopped e P P* R (slotsOf b) (afterCheck (firstOther e P P* R (slotsOf b) (fine b seen)) k)
   unfolding afterCheck
   stopped f =
-      let told-here : Each (Told e P P* R) (f .before ++ (f .slot ∷ f .later)) = subst (λ (l : List ℕ). Each (Told e P P* R) l) (f .split) told in
-      let n = other-number e P P* R (f .slot) (each-right (Told e P P* R) (f .before) (f .slot ∷ f .later) told-here .0) (f .differs) in
+      let told-here : Every (Told e P P* R) (f .before ++ (f .slot ∷ f .later)) = subst (λ (l : List ℕ). Every (Told e P P* R) l) (f .split) told in
+      let n = other-number e P P* R (f .slot) (every-right (Told e P P* R) (f .before) (f .slot ∷ f .later) told-here .0) (f .differs) in
       let found = ap (λ (l : List ℕ). firstOther e P P* R l (fine b seen)) (f .split)
       ∙ other-first e P P* R (f .before) (f .slot) (f .later) _ (f .same) (f .differs) in
       record {
@@ -106,7 +106,7 @@ module _ {A : Type 0} (e : Edition) (P P* R : List ℕ) (b : Blob) (seen : List 
       }
 
 -- refusal 2 is not given where records are sound
-records-pass : {A : Type 0} (R ss : List ℕ) (o : Outcome A) → Each (λ x. soundRecord (recordAt R x) ≡ true) ss → refuseBadRecord R ss o ≡ o
+records-pass : {A : Type 0} (R ss : List ℕ) (o : Outcome A) → Every (λ x. soundRecord (recordAt R x) ≡ true) ss → refuseBadRecord R ss o ≡ o
 unfolding refuseBadRecord pick
 records-pass R [] o q = refl
 records-pass R (s ∷ ss) o q = rw (q .0) (records-pass R ss o (q .1))
@@ -118,7 +118,7 @@ unfolding opened refuseIf
 opened-passes {A} e p N P R s sound o =
     let n : slotsIn e P ≡ N = slots-in e p N P (s .pool) in
     rw (so-sized e p N P R s, n)
-    (records-pass R (range 0 N) o (range-each (λ x. soundRecord (recordAt R x) ≡ true) N 0 (λ x h k. sound x (omega arith))))
+    (records-pass R (range 0 N) o (range-every (λ x. soundRecord (recordAt R x) ≡ true) N 0 (λ x h k. sound x (omega arith))))
 
 -- nor is refusal 3 of a root
 pub rooted-passes : {A : Type 0} (e : Edition) (N : ℕ) (P R : List ℕ) (r : ℕ) → r < N → state R r ≡ 2 → (o : Outcome A) → rooted e N P R r o ≡ o
@@ -135,7 +135,7 @@ reading-checks e p N P R good sound r within root k = opened-passes e p N P R go
 -- a reading call of a root whose blob the check finds in the first pool
 pub reading-exact : {A : Type 0} (e : Edition) → Proper e → (N : ℕ) (P P* R : List ℕ) → Sized e N P R → length P* ≡ length P
     → ((x : ℕ) → x < N → soundRecord (recordAt R x) ≡ true) → (r : ℕ) → r < N → state R r ≡ 2
-    → (b : Blob) (seen : List ℕ) → blobCheck e N P R r ≡ fine b seen → Each (Told e P P* R) (slotsOf b)
+    → (b : Blob) (seen : List ℕ) → blobCheck e N P R r ≡ fine b seen → Every (Told e P P* R) (slotsOf b)
     → (k : Blob → Outcome A) → ((n s : ℕ) → k b ≡ refused (at n s) → ⊥)
     → Exact e P P* R b (opened e P R (reading e N P R r k)) (opened e P* R (reading e N P* R r k))
 unfolding afterCheck

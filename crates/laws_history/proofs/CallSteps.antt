@@ -3,7 +3,7 @@
 use mathlib.Core.Path.{_≡_, refl, sym, subst}
 use mathlib.Core.Bool.{Bool, true, false, not}
 use mathlib.Core.List.{List, [], _∷_, map}
-use Prim.Native.Nat.{ℕ, _-_, _*_, _^_, _≤_, _<_}
+use Prim.Native.Nat.{ℕ, _*_, _^_, _≤_, _<_}
 use native.Mathlib.Omega.{arith}
 use native.Mathlib.Nat.{mul-div-cancel-left}
 use borrow.Author.Tests.{ltb-true, not-false}
@@ -27,19 +27,19 @@ use Rattle.meaning.specs.Calls.{lengthCall, readCall, showCall, auditCall, crea
 use Rattle.meaning.specs.Run as run
 use Rattle.meaning.specs.Run.{Call, perform}
 use Rattle.laws.proofs.Inversions.{by-test, both-true}
-use Rattle.laws_history.proofs.WalkOrder.{Each, each-map}
+use Rattle.laws.proofs.Every.{Every, every-weaker}
 use Rattle.laws_history.proofs.Reached.{Live, pool-reach}
 use Rattle.laws_history.proofs.Stepped.{same, Next, Settled, Ready, turned-next, turned-settled}
 use Rattle.laws_history.proofs.Taken.{picked, held-slot, refilled-taken, resized-taken, lowest-taken}
 
 -- what is filtered passes the test
-filtered : (p : ℕ → Bool) (xs : List ℕ) → Each (λ x. p x ≡ true) (filter p xs)
+filtered : (p : ℕ → Bool) (xs : List ℕ) → Every (λ x. p x ≡ true) (filter p xs)
 unfolding filter pick
 filtered p [] = tt
 filtered p (x ∷ xs) = by-test (p x) (λ t. rw t (t, filtered p xs)) (λ t. rw t (filtered p xs))
 
 -- what holds of all holds of each
-each-all : (p : ℕ → Bool) (xs : List ℕ) → all p xs ≡ true → Each (λ x. p x ≡ true) xs
+each-all : (p : ℕ → Bool) (xs : List ℕ) → all p xs ≡ true → Every (λ x. p x ≡ true) xs
 unfolding all
 each-all p [] h = tt
 each-all p (x ∷ xs) h = let t = both-true (p x) (all p xs) h in (t .0, each-all p xs (t .1))
@@ -113,22 +113,22 @@ module _ (e : Edition) (N : ℕ) (small : N ≤ 2 ^ 32) (S : Store) (is : Settle
   past-young h = absurd (omega arith)
 
   -- the usable free slots may
-  usable-young : Each Young (usable e N P R)
+  usable-young : Every Young (usable e N P R)
   unfolding usable usableSlot Young
   usable-young =
-      each-map (λ x. usableSlot R x ≡ true) Young
+      every-weaker (λ x. usableSlot R x ≡ true) Young
       (λ x t h. ltb-true (recorded R x) lastVersion (both-true (eqb (state R x) 0) (ltb (recorded R x) lastVersion) t .1))
       (usable e N P R) (filtered (usableSlot R) (range 0 N))
 
   -- and those of a blob that is not worn
-  blob-young : (b : Blob) → not (all (λ s. ltb (recorded R s) lastVersion) (slotsOf b)) ≡ false → Each Young (slotsOf b)
+  blob-young : (b : Blob) → not (all (λ s. ltb (recorded R s) lastVersion) (slotsOf b)) ≡ false → Every Young (slotsOf b)
   unfolding Young
   blob-young b t =
-      each-map (λ x. ltb (recorded R x) lastVersion ≡ true) Young (λ x u h. ltb-true (recorded R x) lastVersion u)
+      every-weaker (λ x. ltb (recorded R x) lastVersion ≡ true) Young (λ x u h. ltb-true (recorded R x) lastVersion u)
       (slotsOf b) (each-all _ (slotsOf b) (not-false _ t))
 
   -- a blob whose slots are live, and other blocks whose slots may rise
-  ready-blob : (b : Blob) (new : List (ℕ × Cell)) → Each (Live N R) (slotsOf b) → Each Young (map (λ c. c .0) new)
+  ready-blob : (b : Blob) (new : List (ℕ × Cell)) → Every (Live N R) (slotsOf b) → Every Young (map (λ c. c .0) new)
       → Ready N R 1 (held (cellsOf b)) (held new)
   unfolding Young slotsOf
   ready-blob b new live young =
@@ -140,15 +140,15 @@ module _ (e : Edition) (N : ℕ) (small : N ≤ 2 ^ 32) (S : Store) (is : Settle
       }
 
   -- the blob with that root
-  with-steps : {A : Type 0} (r : ℕ) (k : Blob → Outcome A) (bs : List Blob) → ((b : Blob) → Each (Live N R) (slotsOf b) → Steps (k b))
-      → Each (λ b. Each (Live N R) (slotsOf b)) bs → Steps (withBlob r k bs)
+  with-steps : {A : Type 0} (r : ℕ) (k : Blob → Outcome A) (bs : List Blob) → ((b : Blob) → Every (Live N R) (slotsOf b) → Steps (k b))
+      → Every (λ b. Every (Live N R) (slotsOf b)) bs → Steps (withBlob r k bs)
   unfolding withBlob
   with-steps r k [] g live = refused-steps _ (nowhere 3)
   with-steps {A} r k (b ∷ bs) g live =
       picked (λ (o : Outcome A). Steps o) (eqb (rootOf b) r) _ _ (g b (live .0)) (with-steps r k bs g (live .1))
 
   -- a call that changes the blob of a root
-  changing-steps : {A : Type 0} (r : ℕ) (k : Blob → Outcome A) → ((b : Blob) → Each (Live N R) (slotsOf b) → Steps (k b))
+  changing-steps : {A : Type 0} (r : ℕ) (k : Blob → Outcome A) → ((b : Blob) → Every (Live N R) (slotsOf b) → Steps (k b))
       → Steps (changing e N P R r k)
   unfolding changing rooted
   changing-steps r k g =

@@ -27,7 +27,7 @@ use Rattle.meaning.specs.Calls.{lengthCall, readCall, showCall, auditCall}
 use Rattle.meaning.specs.Answers.{shownPart}
 use Rattle.meaning.specs.Run.{Call, run}
 use Rattle.laws.proofs.Inversions.{by-test}
-use Rattle.laws_history.proofs.WalkOrder.{Each}
+use Rattle.laws.proofs.Every.{Every}
 use Rattle.laws_history.proofs.Local.{Same, Told}
 use Rattle.laws_history.proofs.Reached.{Live, from-reach}
 use Rattle.laws_history.proofs.Fewer.{pool-found}
@@ -82,7 +82,7 @@ pub record Answers (e : Edition) (N : ℕ) (P P* R : List ℕ) (r : ℕ) : Type 
   pub length : Exact e P P* R blob (lengthCall e P R r) (lengthCall e P* R r)
   pub read : (offset size : ℕ) → Exact e P P* R blob (readCall e P R r offset size) (readCall e P* R r offset size)
   pub show : (k : ℕ) → Exact e P P* R blob (showCall e P R r k) (showCall e P* R r k)
-  pub shown : (k : ℕ) → Each (Same e P P*) (slotsOf blob) → shownPart e P* (showCall e P* R r k) ≡ shownPart e P (showCall e P R r k)
+  pub shown : (k : ℕ) → Every (Same e P P*) (slotsOf blob) → shownPart e P* (showCall e P* R r k) ≡ shownPart e P (showCall e P R r k)
 
 -- what the audit answers: it passes on the writer's pool, with the count of live slots; on the other pool it passes exactly if that is the writer's
 pub record Audits (e : Edition) (N : ℕ) (P P* R : List ℕ) : Type 0 where
@@ -116,7 +116,7 @@ module _ (e : Edition) (p : Proper e) (S₀ : Store) (good : sized e (S₀ .pool
   told x l = run-told e p S₀ good calls S moment P* fill x (l .0) (l .1)
 
   -- the slots of a blob that the check finds are live
-  blob-told : (r : ℕ) (b : Blob) (m : List ℕ) → blobCheck e N P R r ≡ fine b m → r < N → state R r ≡ 2 → Each (Told e P P* R) (slotsOf b)
+  blob-told : (r : ℕ) (b : Blob) (m : List ℕ) → blobCheck e N P R r ≡ fine b m → r < N → state R r ≡ 2 → Every (Told e P P* R) (slotsOf b)
   unfolding blobCheck
   blob-told r b m found within root =
       from-reach e N P R (Told e P P* R) (λ x l z. told x l) _ r found (within, omega arith) .1 .0
@@ -133,7 +133,7 @@ module _ (e : Edition) (p : Proper e) (S₀ : Store) (good : sized e (S₀ .pool
 
   -- the bytes that show points at
   bytes-shown : (r : ℕ) (b : Blob) (m : List ℕ) → blobCheck e N P R r ≡ fine b m → r < N → state R r ≡ 2
-      → (k : ℕ) → showCall e P* R r k ≡ showCall e P R r k → Each (Same e P P*) (slotsOf b)
+      → (k : ℕ) → showCall e P* R r k ≡ showCall e P R r k → Every (Same e P P*) (slotsOf b)
       → shownPart e P* (showCall e P* R r k) ≡ shownPart e P (showCall e P R r k)
   unfolding showCall showIn afterCheck
   bytes-shown r b m found within root k q same =

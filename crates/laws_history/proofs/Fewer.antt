@@ -21,7 +21,7 @@ use Rattle.laws.proofs.Inversions.{never, by-test, Sound, sound-passed, passed-
 use Rattle.laws.proofs.Walked.{leaf-found, inner-found, none-found, row-found, root-found}
 use Rattle.laws.proofs.Marks.{walk-marks}
 use Rattle.laws.proofs.Roots.{roots-root, roots-other}
-use Rattle.laws_history.proofs.WalkOrder.{Each, each-range}
+use Rattle.laws.proofs.Every.{Every, every-range}
 
 -- fewer flags no slot that more does not
 pub record Fewer (fewer more : List ℕ) : Type 0 where
@@ -128,7 +128,7 @@ module _ (e : Edition) (N : ℕ) (P R : List ℕ) where
 
   -- each root among these slots
   roots-found : (ss seen : List ℕ) (bs : List Blob) (seen′ : List ℕ) → roots e N P R ss seen ≡ fine bs seen′ → length seen ≡ N
-      → Each (λ s. state R s ≡ 2 → Whole s) ss
+      → Every (λ s. state R s ≡ 2 → Whole s) ss
   roots-found [] seen bs seen′ v l = tt
   roots-found (s ∷ ss) seen bs seen′ v l =
       by-test (eqb (state R s) 2)
@@ -144,5 +144,5 @@ module _ (e : Edition) (N : ℕ) (P R : List ℕ) where
   unfolding poolCheck
   pool-found bs seen v r h =
       let (cs, mid, o, q) = andThen-fine (roots e N P R (range 0 N) (replicate N 0)) _ v in
-      each-range (λ s. state R s ≡ 2 → Whole s) N 0 (roots-found (range 0 N) (replicate N 0) cs mid o (length-replicate N 0))
+      every-range (λ s. state R s ≡ 2 → Whole s) N 0 (roots-found (range 0 N) (replicate N 0) cs mid o (length-replicate N 0))
       r (omega arith) (omega arith)

@@ -1,14 +1,14 @@
--- Over any run of calls a slot and a version determine a block. Each call leaves a slot, raises its version by one or frees it with its
+-- Over any run of calls a slot and a version determine a block. Every call leaves a slot, raises its version by one or frees it with its
 -- version kept, so versions never fall, and a slot that is live at one version twice was not touched between. A live block carries its slot
 -- and version, so any block of the history in another place, or from another time, fails check 2.
 use mathlib.Core.Path.{_≡_, refl, sym, ap, subst, _∙_}
 use mathlib.Core.Logic.{_⊎_, inl, inr, ⊎-elim}
 use mathlib.Core.List.{List, [], _∷_, List·Memᴰ, List·Memᴰ·cases-cons}
-use Prim.Native.Nat.{ℕ, zero, suc, _+_, _^_, _≤_, _<_}
+use Prim.Native.Nat.{ℕ, _+_, _^_, _≤_, _<_}
 use native.Mathlib.Omega.{arith}
 use borrow.Author.Tests.{eqb-true, eqb-false, ltb-true, ltb-false}
 use lib.Dec.{eqb, ltb}
-use lib.ListN.{length, getD, replicate}
+use lib.ListN.{replicate}
 use Rattle.meaning.specs.declared.Edition.{Edition}
 use Rattle.meaning.specs.Edition.{Proper}
 use Rattle.meaning.specs.Bytes.{block, recordAt, recordOf, state, recorded}
@@ -17,8 +17,7 @@ use Rattle.meaning.specs.Change.{Store}
 use Rattle.meaning.specs.Run.{Call, perform, moments}
 use Rattle.laws.proofs.Codec.{blank-flaw, state-of, recorded-of}
 use Rattle.laws.proofs.Inversions.{by-test}
-use Rattle.laws.proofs.Walked.{mem-at}
-use Rattle.laws_history.proofs.WalkOrder.{Each, each-mem}
+use Rattle.laws.proofs.Every.{Every, every-mem}
 use Rattle.laws_history.proofs.Stepped.{Risen, Stepped, same, risen, gone, Settled, state-same, recorded-same}
 use Rattle.laws_history.proofs.CallSteps.{call-steps}
 use Rattle.laws_history.proofs.Carried.{Carries, encoded-carries, moved-flaw, older-flaw, newer-flaw}
@@ -88,12 +87,6 @@ since-block e S S′ x (kept p q w) l v = p
 since-block e S S′ x (freed p q) l v = absurd (omega arith)
 since-block e S S′ x (later p) l v = absurd (omega arith)
 
--- it never falls
-since-version : (e : Edition) (S S′ : Store) (x : ℕ) → Since e S S′ x → versionIn S x ≤ versionIn S′ x
-since-version e S S′ x (kept p q w) = omega arith
-since-version e S S′ x (freed p q) = omega arith
-since-version e S S′ x (later p) = omega arith
-
 module _ (e : Edition) (p : Proper e) (N : ℕ) (few : N ≤ e .most) where
   -- one step more, of what a slot holds
   kept-next : (S S′ : Store) (x : ℕ) → x < N → Kept e S x → Stepped e S S′ x → Kept e S′ x
@@ -110,7 +103,7 @@ module _ (e : Edition) (p : Proper e) (N : ℕ) (few : N ≤ e .most) where
   AllKept S = (x : ℕ) → x < N → Kept e S x
 
   -- at every moment from a settled store on, the store is settled and its slots keep the rule
-  pub moments-kept : (S : Store) → Settled e N S → AllKept S → (calls : List Call) → Each (λ T. Settled e N T × AllKept T) (moments e S calls)
+  pub moments-kept : (S : Store) → Settled e N S → AllKept S → (calls : List Call) → Every (λ T. Settled e N T × AllKept T) (moments e S calls)
   unfolding moments
   moments-kept S is k [] = ((is, k), tt)
   moments-kept S is k (c ∷ cs) =
@@ -118,7 +111,7 @@ module _ (e : Edition) (p : Proper e) (N : ℕ) (few : N ≤ e .most) where
       ((is, k), moments-kept (perform e S c) (s .1) (λ x h. kept-next S (perform e S c) x h (k x h) (s .0 x h)) cs)
 
   -- every later moment against an earlier one
-  since-from : (B S : Store) (x : ℕ) → x < N → Settled e N S → Since e B S x → (calls : List Call) → Each (λ T. Since e B T x) (moments e S calls)
+  since-from : (B S : Store) (x : ℕ) → x < N → Settled e N S → Since e B S x → (calls : List Call) → Every (λ T. Since e B T x) (moments e S calls)
   unfolding moments
   since-from B S x h is s [] = (s, tt)
   since-from B S x h is s (c ∷ cs) =
@@ -126,7 +119,7 @@ module _ (e : Edition) (p : Proper e) (N : ℕ) (few : N ≤ e .most) where
       (s, since-from B (perform e S c) x h (n .1) (since-next e B S (perform e S c) x (is .small x h) s (n .0 x h)) cs)
 
   -- every moment of a run against its first
-  since-first : (S : Store) (x : ℕ) → x < N → Settled e N S → (calls : List Call) → Each (λ T. Since e S T x) (moments e S calls)
+  since-first : (S : Store) (x : ℕ) → x < N → Settled e N S → (calls : List Call) → Every (λ T. Since e S T x) (moments e S calls)
   since-first S x h is calls = since-from S S x h is (kept refl refl refl) calls
 
   -- of two moments one is the later
@@ -134,15 +127,15 @@ module _ (e : Edition) (p : Proper e) (N : ℕ) (few : N ≤ e .most) where
       → List·Memᴰ U (moments e S calls) → (Since e T U x) ⊎ (Since e U T x)
   unfolding moments
   either x h S is [] T U a b =
-      let t = each-mem (λ T. T ≡ S) {xs = S ∷ []} (refl, tt) a in
-      let u = each-mem (λ T. T ≡ S) {xs = S ∷ []} (refl, tt) b in
+      let t = every-mem (λ T. T ≡ S) {xs = S ∷ []} (refl, tt) a in
+      let u = every-mem (λ T. T ≡ S) {xs = S ∷ []} (refl, tt) b in
       rw (t, u) (inl (kept refl refl refl))
   either x h S is (c ∷ cs) T U a b =
       let all = since-first S x h is (c ∷ cs) in
       ⊎-elim
-      (λ t. inl (rw t (each-mem (λ W. Since e S W x) all b)))
+      (λ t. inl (rw t (every-mem (λ W. Since e S W x) all b)))
       (λ t. ⊎-elim
-      (λ u. inr (rw u (each-mem (λ W. Since e S W x) all a)))
+      (λ u. inr (rw u (every-mem (λ W. Since e S W x) all a)))
       (λ u. either x h (perform e S c) (call-steps e p N few S is c .1) cs T U t u)
       (List·Memᴰ·cases-cons b))
       (List·Memᴰ·cases-cons a)
@@ -157,11 +150,11 @@ module _ (e : Edition) (p : Proper e) (N : ℕ) (few : N ≤ e .most) where
 
     -- every slot of every moment keeps the rule
     pub kept-at : (T : Store) → List·Memᴰ T (moments e S calls) → AllKept T
-    kept-at T a = each-mem (λ T. Settled e N T × AllKept T) (moments-kept S is starts calls) a .1
+    kept-at T a = every-mem (λ T. Settled e N T × AllKept T) (moments-kept S is starts calls) a .1
 
     -- every moment is settled
     pub settled-at : (T : Store) → List·Memᴰ T (moments e S calls) → Settled e N T
-    settled-at T a = each-mem (λ T. Settled e N T × AllKept T) (moments-kept S is starts calls) a .0
+    settled-at T a = every-mem (λ T. Settled e N T × AllKept T) (moments-kept S is starts calls) a .0
 
     -- what a live slot of a moment holds
     live-carries : (T : Store) → List·Memᴰ T (moments e S calls) → (y : ℕ) → y < N → 1 ≤ stateIn T y → Carries e y (versionIn T y) (blockIn e T y)
@@ -203,14 +196,3 @@ module _ (e : Edition) (p : Proper e) (N : ℕ) (few : N ≤ e .most) where
         let lives′ : 1 ≤ stateIn T x = subst (λ (n : ℕ). 1 ≤ stateIn T n) q lives in
         absurd (d (ap (blockIn e T) q ∙ determined T U a b x h lives′ l (ap (versionIn T) (sym q) ∙ same))))))
         (λ t. let o = eqb-false y x t in moved lives o (moved-flaw e v x y w (blockIn e T y) c o)))
-
-  -- versions never fall: of two moments, the later has the same version or a higher one
-  pub never-falls : (S : Store) → Settled e N S → (calls : List Call) (none : Store) (x i j : ℕ) → x < N → i ≤ j → j < length (moments e S calls)
-      → versionIn (getD (moments e S calls) i none) x ≤ versionIn (getD (moments e S calls) j none) x
-  unfolding moments
-  never-falls S is [] none x i j h l k = let a : i ≡ 0 = omega arith in let b : j ≡ 0 = omega arith in rw (a, b) (omega arith)
-  never-falls S is (c ∷ cs) none x zero j h l k =
-      since-version e S _ x (each-mem (λ T. Since e S T x) (since-first S x h is (c ∷ cs)) (mem-at (moments e S (c ∷ cs)) j none k))
-  never-falls S is (c ∷ cs) none x (suc i) zero h l k = absurd (omega arith)
-  never-falls S is (c ∷ cs) none x (suc i) (suc j) h l k =
-      never-falls (perform e S c) (call-steps e p N few S is c .1) cs none x i j h (omega arith) (omega arith)

@@ -1,9 +1,7 @@
 -- Laws of runs of calls: what a walk sees of another pool, what a call makes of each slot, and what a reader can be shown.
-pub mod WalkOrder
 pub mod Local
 pub mod Reached
 pub mod Fewer
-pub mod Puts
 pub mod Stepped
 pub mod Taken
 pub mod CallSteps

@@ -20,7 +20,8 @@ use Rattle.laws.proofs.Checks.{check-flaw}
 use Rattle.laws.proofs.Inversions.{Sound, never, by-test, same-list, same-self, passed-passing, sound-passed, flaw-number}
 use Rattle.laws.proofs.Walked.{leaf-found, inner-found, none-found, row-found, root-found}
 use Rattle.laws.proofs.Roots.{visit-slot}
-use Rattle.laws_history.proofs.WalkOrder.{Each, each-left, each-right, each-map, slots, slots-own, blob-slots}
+use Rattle.laws.proofs.Every.{Every, every-left, every-right}
+use Rattle.laws.proofs.TreeSlots.{slots, below, own-slots, blob-slots}
 
 -- lists that are found different are
 pub unlike : (a b : List ℕ) → sameList a b ≡ false → a ≡ b → ⊥
@@ -45,7 +46,7 @@ module _ (e : Edition) (P P* R : List ℕ) where
   firstOther (x ∷ xs) f = pick (sameList (block e P* x) (block e P x)) (firstOther xs f) (fault (at (otherFlaw e P* R x) x))
 
   -- where each of these slots is as it was
-  pub other-none : {A : Type 0} (xs : List ℕ) (f : Found A) → Each (Same e P P*) xs → firstOther xs f ≡ f
+  pub other-none : {A : Type 0} (xs : List ℕ) (f : Found A) → Every (Same e P P*) xs → firstOther xs f ≡ f
   unfolding firstOther pick
   other-none [] f s = refl
   other-none (x ∷ xs) f s =
@@ -87,7 +88,7 @@ module _ (e : Edition) (P P* R : List ℕ) where
   other-next f k xs a seen g p q = ap (λ f. andThen f k) p ∙ other-then xs a seen k ∙ ap (firstOther xs) q
 
   -- the first slot that is not as it was
-  pub other-first : {A : Type 0} (before : List ℕ) (x : ℕ) (later : List ℕ) (f : Found A) → Each (Same e P P*) before → (Same e P P* x → ⊥)
+  pub other-first : {A : Type 0} (before : List ℕ) (x : ℕ) (later : List ℕ) (f : Found A) → Every (Same e P P*) before → (Same e P P* x → ⊥)
       → firstOther (before ++ (x ∷ later)) f ≡ fault (at (otherFlaw e P* R x) x)
   other-first before x later f same d =
       other-append before (x ∷ later) f ∙ other-none before _ same
@@ -132,9 +133,9 @@ module _ (e : Edition) (P P* R : List ℕ) where
     -- a row, from each child's visit
     rows-other : (h : ℕ)
         → ((q : ℕ) (edge : Bool) (seen : List ℕ) (s : ℕ) (t : Tree h) (seen′ : List ℕ) → visit e N P R h (Child q) edge seen s ≡ fine t seen′
-        → Each (Told e P P* R) (slots h t) → visit e N P* R h (Child q) edge seen s ≡ firstOther (slots h t) (fine t seen′))
+        → Every (Told e P P* R) (slots h t) → visit e N P* R h (Child q) edge seen s ≡ firstOther (slots h t) (fine t seen′))
         → (q : ℕ) (edge : Bool) (cs seen : List ℕ) (ts : List (Tree h)) (seen′ : List ℕ)
-        → visitRow e N P R (visit e N P R h) q edge cs seen ≡ fine ts seen′ → Each (Told e P P* R) (joined (map (slots h) ts))
+        → visitRow e N P R (visit e N P R h) q edge cs seen ≡ fine ts seen′ → Every (Told e P P* R) (joined (map (slots h) ts))
         → visitRow e N P* R (visit e N P* R h) q edge cs seen ≡ firstOther (joined (map (slots h) ts)) (fine ts seen′)
     unfolding visitRow joined firstOther
     rows-other h each q edge [] seen ts seen′ v told =
@@ -144,41 +145,35 @@ module _ (e : Edition) (P P* R : List ℕ) where
         let f = row-found e N P R h q edge c cs seen v in
         let xs = slots h (f .first) in
         let ys = joined (map (slots h) (f .rest)) in
-        let both-told : Each (Told e P P* R) (xs ++ ys) =
-        subst (λ (ts : List (Tree h)). Each (Told e P P* R) (joined (map (slots h) ts))) (sym (f .trees)) told in
-        let one = each q (both edge (isEmpty cs)) seen c (f .first) (f .mid) (f .walked) (each-left (Told e P P* R) xs ys both-told) in
-        let more = rows-other h each q edge cs (f .mid) (f .rest) seen′ (f .others) (each-right (Told e P P* R) xs ys both-told) in
+        let both-told : Every (Told e P P* R) (xs ++ ys) =
+        subst (λ (ts : List (Tree h)). Every (Told e P P* R) (joined (map (slots h) ts))) (sym (f .trees)) told in
+        let one = each q (both edge (isEmpty cs)) seen c (f .first) (f .mid) (f .walked) (every-left (Told e P P* R) xs ys both-told) in
+        let more = rows-other h each q edge cs (f .mid) (f .rest) seen′ (f .others) (every-right (Told e P P* R) xs ys both-told) in
         rw (← f .trees)
         (other-next _ _ xs (f .first) (f .mid) _ one (other-next _ _ ys (f .rest) seen′ _ more refl) ∙ sym (other-append xs ys _))
 
     -- over the other pool a walk goes the same way, up to the first slot of its tree that is not as it was
     pub visit-other : (h : ℕ) (role : Role) (edge : Bool) (seen : List ℕ) (s : ℕ) (t : Tree h) (seen′ : List ℕ)
-        → visit e N P R h role edge seen s ≡ fine t seen′ → Each (Told e P P* R) (slots h t)
+        → visit e N P R h role edge seen s ≡ fine t seen′ → Every (Told e P P* R) (slots h t)
         → visit e N P* R h role edge seen s ≡ firstOther (slots h t) (fine t seen′)
     unfolding visit slots
     visit-other zero role edge seen s t seen′ v told =
         let f = leaf-found e N P R role edge seen s v in
-        let told′ : Each (Told e P P* R) (slots zero (s, dataOf (block e P s))) =
-        subst (λ (t : Tree zero). Each (Told e P P* R) (slots zero t)) (sym (f .tree)) told in
+        let told′ : Every (Told e P P* R) (slots zero (s, dataOf (block e P s))) =
+        subst (λ (t : Tree zero). Every (Told e P P* R) (slots zero t)) (sym (f .tree)) told in
         rw (← f .tree, ← f .flags)
         (other-next _ _ (s ∷ []) (block e P s) (set seen s 1) _
         (visit-one zero role edge seen s (f .link) (f .sound) (told′ .0)) refl)
     visit-other (suc h) role edge seen s t seen′ v told =
         let f = inner-found e N P R h role edge seen s v in
-        let told′ : Each (Told e P P* R) (slots (suc h) (s, f .below)) =
-        subst (λ (t : Tree (suc h)). Each (Told e P P* R) (slots (suc h) t)) (sym (f .tree)) told in
+        let told′ : Every (Told e P P* R) (slots (suc h) (s, f .below)) =
+        subst (λ (t : Tree (suc h)). Every (Told e P P* R) (slots (suc h) t)) (sym (f .tree)) told in
         rw (← f .tree)
         (other-next _ _ (s ∷ []) (block e P s) (set seen s 1) _
         (visit-one (suc h) role edge seen s (f .link) (f .sound) (told′ .0))
         (other-next _ _ (joined (map (slots h) (f .below))) (f .below) seen′ _
         (rows-other h (λ q. visit-other h (Child q)) s edge (childrenOf (block e P s)) (set seen s 1) (f .below) seen′ (f .walked) (told′ .1)) refl)
         ∙ sym (other-append (s ∷ []) (joined (map (slots h) (f .below))) _))
-
-    -- so does the visit of a row
-    pub row-other : (h q : ℕ) (edge : Bool) (cs seen : List ℕ) (ts : List (Tree h)) (seen′ : List ℕ)
-        → visitRow e N P R (visit e N P R h) q edge cs seen ≡ fine ts seen′ → Each (Told e P P* R) (joined (map (slots h) ts))
-        → visitRow e N P* R (visit e N P* R h) q edge cs seen ≡ firstOther (joined (map (slots h) ts)) (fine ts seen′)
-    row-other h = rows-other h (λ q. visit-other h (Child q))
 
     -- the blob of a tree found from root r, in the other pool, with the height that its block there asks for
     blobFrom : (seen : List ℕ) (r : ℕ) → List ℕ → Found Blob
@@ -189,15 +184,15 @@ module _ (e : Edition) (P P* R : List ℕ) where
     -- where the root's block is as it was, so is its height; else the walk ends there
     tree-other : (seen : List ℕ) (r : ℕ) (t : Tree (min (heightOf (block e P r)) (e .top))) (seen′ : List ℕ)
         → visit e N P R (min (heightOf (block e P r)) (e .top)) Root true seen r ≡ fine t seen′
-        → Each (Told e P P* R) (slots (min (heightOf (block e P r)) (e .top)) t)
+        → Every (Told e P P* R) (slots (min (heightOf (block e P r)) (e .top)) t)
         → fromRoot e N P* R seen r ≡ firstOther (slots (min (heightOf (block e P r)) (e .top)) t)
         (fine (record { height = min (heightOf (block e P r)) (e .top); tree = t }) seen′)
     unfolding fromRoot blobFrom linkCheck andThen
     tree-other seen r t seen′ v told =
         let h = min (heightOf (block e P r)) (e .top) in
-        let (rest, own) = slots-own h t in
-        let first : slots h t ≡ r ∷ rest = own ∙ ap (λ (x : ℕ). x ∷ rest) (visit-slot e N P R h Root true seen r v) in
-        let told-root : Each (Told e P P* R) (r ∷ rest) = subst (λ (l : List ℕ). Each (Told e P P* R) l) first told in
+        let rest = below h t in
+        let first : slots h t ≡ r ∷ rest = own-slots h t ∙ ap (λ (x : ℕ). x ∷ rest) (visit-slot e N P R h Root true seen r v) in
+        let told-root : Every (Told e P P* R) (r ∷ rest) = subst (λ (l : List ℕ). Every (Told e P P* R) l) first told in
         same-or-not r (told-root .0)
         (λ same. ap (blobFrom seen r) same ∙ other-next _ _ (slots h t) t seen′ _ (visit-other h Root true seen r t seen′ v told) refl)
         (λ d n.
@@ -206,32 +201,19 @@ module _ (e : Edition) (P P* R : List ℕ) where
         ∙ sym (ap (λ (l : List ℕ). firstOther l (fine (record { height = h; tree = t }) seen′)) first ∙ other-here r rest _ d))
 
     -- so does the walk from a root
-    pub from-other : (seen : List ℕ) (r : ℕ) (b : Blob) (seen′ : List ℕ) → fromRoot e N P R seen r ≡ fine b seen′ → Each (Told e P P* R) (slotsOf b)
+    pub from-other : (seen : List ℕ) (r : ℕ) (b : Blob) (seen′ : List ℕ) → fromRoot e N P R seen r ≡ fine b seen′ → Every (Told e P P* R) (slotsOf b)
         → fromRoot e N P* R seen r ≡ firstOther (slotsOf b) (fine b seen′)
     from-other seen r b seen′ v told =
         let (t, o, q) = root-found e N P R seen r v in
         let h = min (heightOf (block e P r)) (e .top) in
         let b′ : Blob = record { height = h; tree = t } in
-        let told′ : Each (Told e P P* R) (slots h t) = subst (λ (l : List ℕ). Each (Told e P P* R) l) (ap slotsOf (sym q) ∙ blob-slots b′) told in
+        let told′ : Every (Told e P P* R) (slots h t) = subst (λ (l : List ℕ). Every (Told e P P* R) l) (ap slotsOf (sym q) ∙ blob-slots b′) told in
         tree-other seen r t seen′ o told′
         ∙ ap (λ (l : List ℕ). firstOther l (fine b′ seen′)) (sym (blob-slots b′))
         ∙ ap (λ (c : Blob). firstOther (slotsOf c) (fine c seen′)) q
 
     -- and the blob check: the same blob, or the fault of the first of its slots that is not as it was
-    pub check-other : (r : ℕ) (b : Blob) (seen : List ℕ) → blobCheck e N P R r ≡ fine b seen → Each (Told e P P* R) (slotsOf b)
+    pub check-other : (r : ℕ) (b : Blob) (seen : List ℕ) → blobCheck e N P R r ≡ fine b seen → Every (Told e P P* R) (slotsOf b)
         → blobCheck e N P* R r ≡ firstOther (slotsOf b) (fine b seen)
     unfolding blobCheck
     check-other r b seen v told = from-other (replicate N 0) r b seen v told
-
-    -- locality: if every block of the blob is as it was, the check finds the same blob
-    pub check-same : (r : ℕ) (b : Blob) (seen : List ℕ) → blobCheck e N P R r ≡ fine b seen → Each (Same e P P*) (slotsOf b)
-        → blobCheck e N P* R r ≡ fine b seen
-    check-same r b seen v same =
-        check-other r b seen v (each-map (Same e P P*) (Told e P P* R) (λ x s z. s) (slotsOf b) same) ∙ other-none (slotsOf b) (fine b seen) same
-
-    -- else the check stops at the first slot, in walk order, that is not as it was
-    pub check-first : (r : ℕ) (b : Blob) (seen : List ℕ) → blobCheck e N P R r ≡ fine b seen → Each (Told e P P* R) (slotsOf b)
-        → (before : List ℕ) (s : ℕ) (later : List ℕ) → slotsOf b ≡ before ++ (s ∷ later) → Each (Same e P P*) before → (Same e P P* s → ⊥)
-        → blobCheck e N P* R r ≡ fault (at (otherFlaw e P* R s) s)
-    check-first r b seen v told before s later split same d =
-        check-other r b seen v told ∙ ap (λ (l : List ℕ). firstOther l (fine b seen)) split ∙ other-first before s later _ same d

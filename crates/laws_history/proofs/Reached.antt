@@ -21,7 +21,8 @@ use Rattle.meaning.specs.Walk.{flaw, isRoot, linkCheck, fine, isEmpty, visitRow
 use Rattle.laws.proofs.Inversions.{never, by-test, no-flaw, Sound, passed-linked, must-passed, first-passed, andThen-fine, passing-fine, fine-same}
 use Rattle.laws.proofs.Walked.{leaf-found, inner-found, none-found, row-found, root-found}
 use Rattle.laws.proofs.Roots.{visit-slot, roots-root, roots-other}
-use Rattle.laws_history.proofs.WalkOrder.{Each, each-both, each-range, range-each, slots, slots-own, blob-slots}
+use Rattle.laws.proofs.Every.{Every, every-append, every-range, range-every}
+use Rattle.laws.proofs.TreeSlots.{slots, below, own-slots, blob-slots}
 
 -- Q holds of every slot that is flagged
 abbrev pub Flagged : (ℕ → Type 0) → List ℕ → Type 0
@@ -56,7 +57,7 @@ module _ (e : Edition) (N : ℕ) (P R : List ℕ) (Q : ℕ → Type 0)
     (holds : (x : ℕ) → Live N R x → flaw e (recorded R x) x (block e P x) ≡ 0 → Q x) where
   -- Q holds of these slots, and of each flagged slot if it did before
   abbrev pub Reach : (xs seen seen′ : List ℕ) → Type 0
-  Reach xs seen seen′ = Each Q xs × (Flagged Q seen → Flagged Q seen′)
+  Reach xs seen seen′ = Every Q xs × (Flagged Q seen → Flagged Q seen′)
 
   -- a visited slot itself
   here : (h : ℕ) (role : Role) (edge : Bool) (seen : List ℕ) (s : ℕ) → linkCheck N R seen role s ≡ Passed → (isRoot role ≡ true → Live N R s)
@@ -78,7 +79,7 @@ module _ (e : Edition) (N : ℕ) (P R : List ℕ) (Q : ℕ → Type 0)
       let f = row-found e N P R h q edge c cs seen v in
       let one = each q (both edge (isEmpty cs)) seen c (f .first) (f .mid) (f .walked) in
       let more = row-reach h each q edge cs (f .mid) (f .others) in
-      rw (← f .trees) (each-both Q (slots h (f .first)) _ (one .0) (more .0), λ g. more .1 (one .1 g))
+      rw (← f .trees) (every-append Q (slots h (f .first)) _ (one .0) (more .0), λ g. more .1 (one .1 g))
 
   -- every slot of a tree that was visited
   pub visit-reach : (h : ℕ) (role : Role) (edge : Bool) (seen : List ℕ) (s : ℕ) {t : Tree h} {seen′ : List ℕ}
@@ -103,14 +104,14 @@ module _ (e : Edition) (N : ℕ) (P R : List ℕ) (Q : ℕ → Type 0)
       let (t, o, q) = root-found e N P R seen r v in
       let h = min (heightOf (block e P r)) (e .top) in
       let w = visit-reach h Root true seen r o (λ z. live) in
-      let (rest, own) = slots-own h t in
-      let first : slots h t ≡ r ∷ rest = own ∙ ap (λ (x : ℕ). x ∷ rest) (visit-slot e N P R h Root true seen r o) in
-      let at-root : Each Q (r ∷ rest) = subst (λ (l : List ℕ). Each Q l) first (w .0) in
-      (at-root .0, (subst (λ (l : List ℕ). Each Q l) (sym (blob-slots (record { height = h; tree = t })) ∙ ap slotsOf q) (w .0), w .1))
+      let rest = below h t in
+      let first : slots h t ≡ r ∷ rest = own-slots h t ∙ ap (λ (x : ℕ). x ∷ rest) (visit-slot e N P R h Root true seen r o) in
+      let at-root : Every Q (r ∷ rest) = subst (λ (l : List ℕ). Every Q l) first (w .0) in
+      (at-root .0, (subst (λ (l : List ℕ). Every Q l) (sym (blob-slots (record { height = h; tree = t })) ∙ ap slotsOf q) (w .0), w .1))
 
   -- every slot of the blobs that the walks from these slots found
-  roots-reach : (ss seen : List ℕ) {bs : List Blob} {seen′ : List ℕ} → roots e N P R ss seen ≡ fine bs seen′ → Each (λ s. s < N) ss
-      → Each (λ s. state R s ≡ 2 → Q s) ss × Each (λ b. Each Q (slotsOf b)) bs × (Flagged Q seen → Flagged Q seen′)
+  roots-reach : (ss seen : List ℕ) {bs : List Blob} {seen′ : List ℕ} → roots e N P R ss seen ≡ fine bs seen′ → Every (λ s. s < N) ss
+      → Every (λ s. state R s ≡ 2 → Q s) ss × Every (λ b. Every Q (slotsOf b)) bs × (Flagged Q seen → Flagged Q seen′)
   unfolding roots
   roots-reach [] seen v within =
       let n = fine-same v in
@@ -122,14 +123,14 @@ module _ (e : Edition) (N : ℕ) (P R : List ℕ) (Q : ℕ → Type 0)
       let is = eqb-true (state R s) 2 t in
       let one = from-reach seen s o (within .0, omega arith) in
       let more = roots-reach ss mid o′ (within .1) in
-      (((λ z. one .0), more .0), subst (λ (bs : List Blob). Each (λ b. Each Q (slotsOf b)) bs) q (one .1 .0, more .1), λ f. more .2 (one .1 .1 f)))
+      (((λ z. one .0), more .0), subst (λ (bs : List Blob). Every (λ b. Every Q (slotsOf b)) bs) q (one .1 .0, more .1), λ f. more .2 (one .1 .1 f)))
       (λ t.
       let more = roots-reach ss seen {bs = bs} {seen′ = seen′} (sym (roots-other e N P R s ss seen t) ∙ v) (within .1) in
       (((λ z. never (sym (eq-eqb (state R s) 2 z) ∙ t)), more .0), more .1, more .2))
 
   -- what the closing pass says of a slot
   closing-says : (ss seen : List ℕ) → closing e N P R ss seen ≡ Passed
-      → Each (λ s. (state R s ≡ 0 → zeros (block e P s) ≡ true) × (state R s ≡ 1 → getD seen s 0 ≡ 1)) ss
+      → Every (λ s. (state R s ≡ 0 → zeros (block e P s) ≡ true) × (state R s ≡ 1 → getD seen s 0 ≡ 1)) ss
   unfolding closing closingCheck pick
   closing-says [] seen c = tt
   closing-says (s ∷ ss) seen c =
@@ -145,18 +146,18 @@ module _ (e : Edition) (N : ℕ) (P R : List ℕ) (Q : ℕ → Type 0)
     pub clean : (x : ℕ) → x < N → state R x ≡ 0 → zeros (block e P x) ≡ true
     pub root : (x : ℕ) → x < N → state R x ≡ 2 → Q x
     pub part : (x : ℕ) → x < N → state R x ≡ 1 → Q x
-    pub blobs : Each (λ b. Each Q (slotsOf b)) bs
+    pub blobs : Every (λ b. Every Q (slotsOf b)) bs
 
   pub pool-reach : {bs : List Blob} {seen : List ℕ} → poolCheck e N P R ≡ fine bs seen → Checked bs
   unfolding poolCheck
   pool-reach {bs} {seen} v =
       let (cs, mid, o, q) = andThen-fine (roots e N P R (range 0 N) (replicate N 0)) _ v in
       let (c, w) = passing-fine (closing e N P R (range 0 N) mid) (fine cs mid) q in
-      let r = roots-reach (range 0 N) (replicate N 0) o (range-each (λ s. s < N) N 0 (λ x h k. omega arith)) in
+      let r = roots-reach (range 0 N) (replicate N 0) o (range-every (λ s. s < N) N 0 (λ x h k. omega arith)) in
       let says = closing-says (range 0 N) mid c in
       record {
-        clean = λ x h. each-range _ N 0 says x (omega arith) (omega arith) .0;
-        root = λ x h. each-range _ N 0 (r .0) x (omega arith) (omega arith);
-        part = λ x h z. r .2 (flagged-none Q N) x (each-range _ N 0 says x (omega arith) (omega arith) .1 z);
-        blobs = subst (λ (bs : List Blob). Each (λ b. Each Q (slotsOf b)) bs) (fine-same w .0) (r .1);
+        clean = λ x h. every-range _ N 0 says x (omega arith) (omega arith) .0;
+        root = λ x h. every-range _ N 0 (r .0) x (omega arith) (omega arith);
+        part = λ x h z. r .2 (flagged-none Q N) x (every-range _ N 0 says x (omega arith) (omega arith) .1 z);
+        blobs = subst (λ (bs : List Blob). Every (λ b. Every Q (slotsOf b)) bs) (fine-same w .0) (r .1);
       }

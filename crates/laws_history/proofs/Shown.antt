@@ -18,19 +18,20 @@ use Rattle.meaning.specs.Answers.{shownPart}
 use Rattle.laws.proofs.Numbers.{part-part}
 use Rattle.laws.proofs.Inversions.{by-test}
 use Rattle.laws.proofs.Walked.{mem-at, walk-here}
-use Rattle.laws_history.proofs.WalkOrder.{Each, each-left, each-right, each-both, each-mem, slots, blob-slots}
+use Rattle.laws.proofs.Every.{Every, every-left, every-right, every-append, every-mem}
+use Rattle.laws.proofs.TreeSlots.{slots, blob-slots}
 use Rattle.laws_history.proofs.Local.{Same}
 
 -- what holds of each slot of a row's trees holds of each leaf's
-rows-leaves : (Q : ℕ → Type 0) (h : ℕ) → ((t : Tree h) → Each Q (slots h t) → Each (λ l. Q (l .0)) (leaves h t))
-    → (ts : List (Tree h)) → Each Q (joined (map (slots h) ts)) → Each (λ l. Q (l .0)) (joined (map (leaves h) ts))
+rows-leaves : (Q : ℕ → Type 0) (h : ℕ) → ((t : Tree h) → Every Q (slots h t) → Every (λ l. Q (l .0)) (leaves h t))
+    → (ts : List (Tree h)) → Every Q (joined (map (slots h) ts)) → Every (λ l. Q (l .0)) (joined (map (leaves h) ts))
 unfolding joined
 rows-leaves Q h each [] q = tt
 rows-leaves Q h each (t ∷ ts) q =
-    each-both (λ l. Q (l .0)) (leaves h t) _ (each t (each-left Q (slots h t) _ q)) (rows-leaves Q h each ts (each-right Q (slots h t) _ q))
+    every-append (λ l. Q (l .0)) (leaves h t) _ (each t (every-left Q (slots h t) _ q)) (rows-leaves Q h each ts (every-right Q (slots h t) _ q))
 
 -- what holds of each slot of a tree holds of each leaf's
-slots-leaves : (Q : ℕ → Type 0) (h : ℕ) (t : Tree h) → Each Q (slots h t) → Each (λ l. Q (l .0)) (leaves h t)
+slots-leaves : (Q : ℕ → Type 0) (h : ℕ) (t : Tree h) → Every Q (slots h t) → Every (λ l. Q (l .0)) (leaves h t)
 unfolding slots leaves
 slots-leaves Q zero t q = (q .0, tt)
 slots-leaves Q (suc h) t q = rows-leaves Q h (slots-leaves Q h) (t .1) (q .1)
@@ -45,7 +46,7 @@ block-part e N P s n whole within fits =
 
 -- a blob that the check finds in the first pool, every block of which is as it was in the other
 module _ (e : Edition) (p : Proper e) (N : ℕ) (P P* R : List ℕ) (whole : length P ≡ e .size * N) (size : length P* ≡ length P)
-    (r : ℕ) (within : r < N) (b : Blob) (seen : List ℕ) (found : blobCheck e N P R r ≡ fine b seen) (same : Each (Same e P P*) (slotsOf b)) where
+    (r : ℕ) (within : r < N) (b : Blob) (seen : List ℕ) (found : blobCheck e N P R r ≡ fine b seen) (same : Every (Same e P P*) (slotsOf b)) where
   -- the data bytes of its k-th leaf
   leaf-shown : (k : ℕ) → k < length (leavesOf b)
       → part (e .size * getD (leavesOf b) k (0, []) .0 + 16) (length (getD (leavesOf b) k (0, []) .1)) P*
@@ -58,8 +59,8 @@ module _ (e : Edition) (p : Proper e) (N : ℕ) (P P* R : List ℕ) (whole : len
       let n = length (l .1) in
       let q : length (l .1) ≤ e .leaf = rw (ap (λ (m : ℕ × List ℕ). length (m .1)) (sym (here .bytes))) (here .block .most) in
       let fits : 16 + n ≤ e .size = omega (arith, p .fits) in
-      let tree = subst (λ (xs : List ℕ). Each (Same e P P*) xs) (blob-slots b) same in
-      let was = each-mem (λ m. Same e P P* (m .0)) (slots-leaves (Same e P P*) (b .height) (b .tree) tree) mem in
+      let tree = subst (λ (xs : List ℕ). Every (Same e P P*) xs) (blob-slots b) same in
+      let was = every-mem (λ m. Same e P P* (m .0)) (slots-leaves (Same e P P*) (b .height) (b .tree) tree) mem in
       block-part e N P* (l .0) n (size ∙ whole) (here .block .within) fits ∙ ap (part 16 n) was
       ∙ sym (block-part e N P (l .0) n whole (here .block .within) fits)
 

@@ -8,7 +8,7 @@ use native.Mathlib.Omega.{arith}
 use native.Mathlib.Nat.{mul-le-mul-left, mul-mod-right, div-add-mod}
 use borrow.Author.Tests.{eqb-true, leb-true, eq-eqb, le-leb}
 use lib.Dec.{eqb, leb}
-use lib.ListN.{length, getD, take, drop, replicate, length-replicate, replicate-append-replicate}
+use lib.ListN.{length, take, drop, replicate, length-replicate, replicate-append-replicate}
 use lib.Seq.{take-at, drop-at}
 use Rattle.meaning.specs.declared.Edition.{Edition}
 use Rattle.meaning.specs.Lists.{pick, part, sameList}
@@ -17,15 +17,15 @@ use Rattle.meaning.specs.Bytes.{block, soundRecord}
 use Rattle.meaning.specs.Walk.{flaw}
 use Rattle.meaning.specs.Change.{Store}
 use Rattle.meaning.specs.Calls.{slotsIn, sized, freeRecords, wiped, afterWipe}
-use Rattle.meaning.specs.Run.{Call, perform, run}
+use Rattle.meaning.specs.Run.{Call, run}
 use Rattle.laws.proofs.Free.{free-record, free-length}
 use Rattle.laws.proofs.Codec.{record-kept, state-of, recorded-of, blank-flaw}
 use Rattle.laws.proofs.Inversions.{by-test, both-true, true-both, same-list}
 use Rattle.laws_history.proofs.Local.{unlike, Told}
-use Rattle.laws_history.proofs.Stepped.{Next, Settled}
-use Rattle.laws_history.proofs.CallSteps.{slots-in, call-steps}
+use Rattle.laws_history.proofs.Stepped.{Settled}
+use Rattle.laws_history.proofs.CallSteps.{slots-in}
 use Rattle.laws_history.proofs.History.{stateIn, versionIn, blockIn, Kept, free, Misplaced, misplaced-some}
-use Rattle.laws_history.proofs.History.{determined, never-falls, settled-at, free-blank, misplaced}
+use Rattle.laws_history.proofs.History.{settled-at, free-blank, misplaced}
 
 -- a part of zeros is zeros
 part-zeros : (a w n : ℕ) → a + w ≤ n → part {A = ℕ} a w (replicate n 0) ≡ replicate w 0
@@ -138,16 +138,6 @@ module _ (e : Edition) (p : Proper e) (S₀ : Store) (good : sized e (S₀ .pool
       let g = sized-so e (S₀ .pool) (S₀ .records) good in
       record { some = g .some; few = g .few; pool = s .pools; lines = s .lines }
 
-  -- at every moment every call follows the version rule at every slot
-  pub run-steps : (T : Store) → List·Memᴰ T (run e S₀ calls) → (c : Call) → Next e N T (perform e T c)
-  run-steps T a c = call-steps e p N few-slots T (run-settled T a) c .0
-
-  -- slot and version determine the block
-  pub run-determined : (T U : Store) → List·Memᴰ T (run e S₀ calls) → List·Memᴰ U (run e S₀ calls) → (x : ℕ) → x < N
-      → 1 ≤ stateIn T x → 1 ≤ stateIn U x → versionIn T x ≡ versionIn U x → blockIn e T x ≡ blockIn e U x
-  unfolding run
-  run-determined = determined e p N few-slots (afterWipe e S₀) start-settled start-kept calls
-
   -- a free slot is zeros
   pub run-blank : (T : Store) → List·Memᴰ T (run e S₀ calls) → (x : ℕ) → x < N → stateIn T x ≡ 0 → blockIn e T x ≡ replicate (e .size) 0
   unfolding run
@@ -158,12 +148,6 @@ module _ (e : Edition) (p : Proper e) (S₀ : Store) (good : sized e (S₀ .pool
       → 1 ≤ stateIn U x → (blockIn e T y ≡ blockIn e U x → ⊥) → Misplaced T y (versionIn U x) x (flaw e (versionIn U x) x (blockIn e T y))
   unfolding run
   run-misplaced = misplaced e p N few-slots (afterWipe e S₀) start-settled start-kept calls
-
-  -- versions never fall
-  pub run-never-falls : (none : Store) (x i j : ℕ) → x < N → i ≤ j → j < length (run e S₀ calls)
-      → versionIn (getD (run e S₀ calls) i none) x ≤ versionIn (getD (run e S₀ calls) j none) x
-  unfolding run
-  run-never-falls = never-falls e p N few-slots (afterWipe e S₀) start-settled calls
 
   -- what passes check 2 at a slot of such a pool, where the record is that of a live slot at a moment, is what that slot held then
   pub run-told : (S : Store) → List·Memᴰ S (run e S₀ calls) → (P* : List ℕ) → FromRun e S₀ calls P* → (x : ℕ) → x < N → 1 ≤ stateIn S x

@@ -3,17 +3,17 @@
 use mathlib.Core.Path.{_≡_, refl, ap, _∙_}
 use mathlib.Core.Bool.{true}
 use mathlib.Core.List.{List}
-use Prim.Native.Nat.{ℕ, _+_, _-_, _*_, _^_, _≤_, _<_}
+use Prim.Native.Nat.{ℕ, _+_, _*_, _^_, _≤_, _<_}
 use native.Mathlib.Omega.{arith}
 use lib.ListN.{length, replicate}
 use Rattle.meaning.specs.declared.Edition.{Edition}
-use Rattle.meaning.specs.Lists.{pick, range}
+use Rattle.meaning.specs.Lists.{pick}
 use Rattle.meaning.specs.Bytes.{Cell, sameCell, encoded, block, recordOf, recordAt, state, recorded, soundRecord, lastVersion}
 use Rattle.meaning.specs.Tree.{Held, nothing, just}
-use Rattle.meaning.specs.Change.{Store, changedBy, freed, renewed, changed, changes}
+use Rattle.meaning.specs.Change.{Store, freed, renewed, changed}
 use Rattle.laws.proofs.Codec.{recorded-of, state-known, record-kept}
 use Rattle.laws.proofs.Inversions.{by-test}
-use Rattle.laws_history.proofs.Puts.{settled, blocks-wide, lines-wide, run-length, run-at}
+use Rattle.laws.proofs.Puts.{made, Then, then-pool, then-records, then-block, then-record}
 
 -- slot x has risen from store S to S′: it is live and holds a cell, at the version after its recorded one, in block and record alike
 pub record Risen (e : Edition) (S S′ : Store) (x : ℕ) : Type 0 where
@@ -62,23 +62,7 @@ pub record Ready (N : ℕ) (R : List ℕ) (taken : ℕ) (old new : ℕ → Held)
 module _ (e : Edition) (N : ℕ) (S : Store) (is : Settled e N S) (taken : ℕ) (old new : ℕ → Held) (ready : Ready N (S .records) taken old new) where
   -- what the changes of all slots make of the store
   abbrev pub turned : Store
-  turned = changedBy e (changes e (S .records) taken old new (range 0 N)) S
-
-  -- a slot's block afterwards
-  block-at : (x : ℕ) → x < N
-      → block e (turned .pool) x ≡ settled (λ c. c .block) (changed e (S .records) taken x (old x) (new x)) (block e (S .pool) x)
-  unfolding changedBy block
-  block-at x h =
-      run-at e (S .records) taken old new (e .size) (λ c. c .block) N (λ s. blocks-wide e (S .records) taken s (old s) (new s))
-      N 0 x (S .pool) (omega arith) (is .pools) (omega arith) (omega arith)
-
-  -- its record
-  line-at : (x : ℕ) → x < N
-      → recordAt (turned .records) x ≡ settled (λ c. c .line) (changed e (S .records) taken x (old x) (new x)) (recordAt (S .records) x)
-  unfolding changedBy recordAt
-  line-at x h =
-      run-at e (S .records) taken old new 12 (λ c. c .line) N (λ s. lines-wide e (S .records) taken s (old s) (new s))
-      N 0 x (S .records) (omega arith) (is .lines) (omega arith) (omega arith)
+  turned = Then e N S taken old new (is .pools) (is .lines)
 
   -- a slot that holds a new cell has risen
   rise : (x st : ℕ) (c : Cell) → x < N → 1 ≤ st → st ≤ 2 → new x ≡ just c
@@ -91,10 +75,10 @@ module _ (e : Edition) (N : ℕ) (S : Store) (is : Settled e N S) (taken : ℕ) 
 
   -- by what the slot held and holds
   by-held : (x : ℕ) → x < N → (o n : Held) → old x ≡ o → new x ≡ n
-      → block e (turned .pool) x ≡ settled (λ c. c .block) (changed e (S .records) taken x o n) (block e (S .pool) x)
-      → recordAt (turned .records) x ≡ settled (λ c. c .line) (changed e (S .records) taken x o n) (recordAt (S .records) x)
+      → block e (turned .pool) x ≡ made (λ c. c .block) (changed e (S .records) taken x o n) (block e (S .pool) x)
+      → recordAt (turned .records) x ≡ made (λ c. c .line) (changed e (S .records) taken x o n) (recordAt (S .records) x)
       → Stepped e S turned x
-  unfolding changed freed renewed settled pick
+  unfolding changed freed renewed made pick
   by-held x h nothing nothing p q b r = same b r
   by-held x h nothing (just c) p q b r = rise x taken c h (ready .live) (ready .known) q b r
   by-held x h (just d) nothing p q b r = gone b r
@@ -105,7 +89,9 @@ module _ (e : Edition) (N : ℕ) (S : Store) (is : Settled e N S) (taken : ℕ) 
 
   -- each slot follows the version rule
   pub turned-next : Next e N S turned
-  turned-next x h = by-held x h (old x) (new x) refl refl (block-at x h) (line-at x h)
+  turned-next x h =
+      by-held x h (old x) (new x) refl refl
+      (then-block e N S taken old new (is .pools) (is .lines) x h) (then-record e N S taken old new (is .pools) (is .lines) x h)
 
   -- a slot's record afterwards is sound, and its version has eight bytes
   line-kept : (x : ℕ) → x < N → Stepped e S turned x → (soundRecord (recordAt (turned .records) x) ≡ true) × (recorded (turned .records) x < 2 ^ 64)
@@ -124,13 +110,10 @@ module _ (e : Edition) (N : ℕ) (S : Store) (is : Settled e N S) (taken : ℕ) 
 
   -- and the store keeps its lengths
   pub turned-settled : Settled e N turned
-  unfolding changedBy
   turned-settled =
       record {
-        pools = run-length e (S .records) taken old new (e .size) (λ c. c .block) N (λ s. blocks-wide e (S .records) taken s (old s) (new s))
-            N 0 (S .pool) (omega arith) (is .pools);
-        lines = run-length e (S .records) taken old new 12 (λ c. c .line) N (λ s. lines-wide e (S .records) taken s (old s) (new s))
-            N 0 (S .records) (omega arith) (is .lines);
+        pools = then-pool e N S taken old new (is .pools) (is .lines) ∙ is .pools;
+        lines = then-records e N S taken old new (is .pools) (is .lines) ∙ is .lines;
         sound = λ x h. line-kept x h (turned-next x h) .0;
         small = λ x h. line-kept x h (turned-next x h) .1;
       }

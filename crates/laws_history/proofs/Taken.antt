@@ -4,7 +4,7 @@
 use mathlib.Core.Path.{_≡_, sym, subst}
 use mathlib.Core.Bool.{Bool, true, false}
 use mathlib.Core.List.{List, [], _∷_, _++_, map}
-use Prim.Native.Nat.{ℕ, zero, suc, _+_, _-_, _^_}
+use Prim.Native.Nat.{ℕ, zero, suc, _-_, _^_}
 use native.Mathlib.Omega.{arith}
 use borrow.Author.Tests.{eqb-true}
 use lib.Dec.{leb, eqb}
@@ -16,7 +16,8 @@ use Rattle.meaning.specs.Tree.{Tree, Blob, slotOf, atSlot, leavesOf, lengthOf, 
 use Rattle.meaning.specs.Resize.{Grown, lowest, chain, onLast, roomy, hang, raised, addLeaf, addLeaves, lastLeaf, longer}
 use Rattle.meaning.specs.Resize.{keepRow, keep, lower, shorter, resized, Spread, along, refill, refilled}
 use Rattle.laws.proofs.Inversions.{by-test}
-use Rattle.laws_history.proofs.WalkOrder.{Each, each-left, each-right, each-both, slots, blob-slots}
+use Rattle.laws.proofs.Every.{Every as Each, every-left as each-left, every-right as each-right, every-append as each-both}
+use Rattle.laws.proofs.TreeSlots.{slots, blob-slots}
 
 -- what holds either way holds of the choice
 pub picked : {A : Type 0} (Z : A → Type 0) (t : Bool) (x y : A) → Z x → Z y → Z (pick t x y)

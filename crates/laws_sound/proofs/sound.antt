@@ -3,8 +3,6 @@ pub mod TimesListed
 pub mod Cells
 pub mod Walks
 pub mod Blobs
-pub mod Filled
-pub mod Puts
 pub mod Pools
 pub mod Replaced
 pub mod After

@@ -1,6 +1,5 @@
 -- No block of a blob is higher than its root, and no more slots are usable than there are.
 use mathlib.Core.Path.{_≡_, ap}
-use mathlib.Core.Bool.{Bool, true, false}
 use mathlib.Core.Logic.{_⊎_, inl, inr}
 use mathlib.Core.List.{List, [], _∷_, map, List·Memᴰ, List·Memᴰ·not-nil, List·Memᴰ·cases-cons}
 use mathlib.Core.List.{List·Memᴰ·append-cases, List·Memᴰ·eq-of-singleton}
@@ -8,10 +7,10 @@ use Prim.Native.Nat.{ℕ, zero, suc, _+_, _≤_}
 use native.Mathlib.Omega.{arith}
 use lib.ListN.{length}
 use Rattle.meaning.specs.declared.Edition.{Edition}
-use Rattle.meaning.specs.Lists.{pick, range, filter}
 use Rattle.meaning.specs.Bytes.{usableSlot}
 use Rattle.meaning.specs.Tree.{Tree, Blob, slotOf}
 use Rattle.meaning.specs.Calls.{usable}
+use Rattle.laws.proofs.Ranges.{filter-few}
 use Rattle.laws_resize.specs.growth.Room.{count}
 use Rattle.laws_resize.specs.growth.Sites.{Site, counting, sites, sitesOf, at, sited}
 use Rattle.laws_resize.proofs.growth.Places.{sited-listed}
@@ -45,17 +44,7 @@ pub site-low : (b : Blob) (s : ℕ) (x : Site) → sited (sitesOf b) s ≡ at x 
 unfolding sitesOf
 site-low b s x found = tree-low (b .height) 0 (b .tree) s x (sited-listed (sitesOf b) s x found)
 
--- a test keeps no more than there are
-filter-few : (p : ℕ → Bool) (from n : ℕ) → length (filter p (range from n)) ≤ n
-unfolding filter range pick
-filter-few p from zero = omega arith
-filter-few p from (suc n) = go (p from) (filter-few p (suc from) n)
-  where
-    go : (c : Bool) → length (filter p (range (suc from) n)) ≤ n
-        → length (pick c (from ∷ filter p (range (suc from) n)) (filter p (range (suc from) n))) ≤ suc n
-    go true q = omega arith
-    go false q = omega arith
-
+-- no more slots are usable than there are
 pub usable-few : (e : Edition) (n : ℕ) (P R : List ℕ) → length (usable e n P R) ≤ n
 unfolding usable
 usable-few e n P R = filter-few (usableSlot R) 0 n

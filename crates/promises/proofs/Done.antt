@@ -23,14 +23,14 @@ use Rattle.meaning.specs.Answers.{yields}
 use Rattle.meaning.specs.Run.{create, write, resize, delete, says, perform}
 use Rattle.laws.proofs.Inversions.{by-test, true-both, same-self, never}
 use Rattle.laws.proofs.Codec.{state-of, recorded-of}
-use Rattle.laws.proofs.Roots.{in-range, in-filter}
+use Rattle.laws.proofs.Ranges.{in-range, in-filter}
 use Rattle.laws_resize.proofs.resizing.SlotCounts.{times, member-times, times-member}
 use Rattle.laws_resize.proofs.resizing.Resized.{resized-taken, resized-from}
 use Rattle.laws_sound.proofs.sound.Cells.{cellSlots}
 use Rattle.laws_sound.proofs.sound.TimesListed.{by-times, times-none}
 use Rattle.laws_sound.proofs.sound.Blobs.{Lies, lies-within}
 use Rattle.laws_sound.proofs.sound.Pools.{pool-one}
-use Rattle.laws_sound.proofs.sound.Puts.{made, then-pool, then-block, then-record}
+use Rattle.laws.proofs.Puts.{made, then-pool, then-block, then-record}
 use Rattle.laws_sound.proofs.sound.After.{held-none, held-some, same-cell}
 use Rattle.laws_sound.proofs.again.Parting.{blob-met}
 use Rattle.laws_sound.proofs.again.Outcomes.{Opens, opened-done, afterCheck-done, refuseIf-done, done-same, sized-lengths, Lengths, changing-done, among-lies}

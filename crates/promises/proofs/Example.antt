@@ -25,7 +25,7 @@ use Rattle.meaning.specs.declared.Edition.{Edition}
 use Rattle.meaning.specs.Edition.{Proper}
 use Rattle.laws.proofs.Inversions.{by-test}
 use Rattle.laws.proofs.Walked.{mem-at, block-length}
-use Rattle.laws_sound.proofs.sound.Puts.{put-same, put-other}
+use Rattle.laws.proofs.Puts.{put-same, put-other}
 use Rattle.laws_history.proofs.Started.{run-settled}
 use borrow.Author.Tests.{eqb-true, eqb-false}
 use Rattle.promises.specs.Demands.{slotsAt, reader, Filled}

@@ -23,9 +23,10 @@ use Rattle.laws.proofs.Numbers.{part-part}
 use Rattle.laws.proofs.Walked.{mem-at, walk-here, LeafHere}
 use Rattle.laws_resize.proofs.resizing.SlotCounts.{times-cons}
 use Rattle.laws_sound.proofs.sound.TimesListed.{marked, times-same}
-use Rattle.laws_sound.proofs.sound.Cells.{Every}
+use Rattle.laws.proofs.Every.{every-mem}
 use Rattle.laws_sound.proofs.sound.Blobs.{Lies, lies-within}
-use Rattle.laws_sound.proofs.sound.Pools.{Pool, pool-found, pool-passes, slots-root}
+use Rattle.laws.proofs.TreeSlots.{slots-root}
+use Rattle.laws_sound.proofs.sound.Pools.{Pool, pool-found, pool-passes}
 use Rattle.laws_sound.proofs.again.Outcomes.{Opens, Lengths, sized-lengths, Among, blob-among, among-walk}
 use Rattle.laws_sound.proofs.again.Counts.{entries, live-count, all-blocks}
 use Rattle.laws_sound.proofs.again.Done.{Good, among-others}
@@ -33,11 +34,6 @@ use Rattle.laws_sound.proofs.again.Runs.{good-passes}
 use Rattle.promises.proofs.Said.{saidBy, oneNumber, allBytes, leafShown, says-audit, says-length, says-read, says-show}
 use Rattle.promises.proofs.Refused.{opened-passed, root-passed, check-passed}
 use Rattle.promises.specs.Demands.{slotsAt, blobAt, poolAt, Opened, Passes, Finds, asBook}
-
--- a claim of each element, and of every member
-pub every-mem : {A : Type 0} (Q : A → Type 0) {x : A} {xs : List A} → Every Q xs → List·Memᴰ x xs → Q x
-every-mem Q h (List·Memᴰ·head p) = subst Q (sym p) (h .0)
-every-mem Q h (List·Memᴰ·tail m) = every-mem Q (h .1) m
 
 -- one of a list
 pub in-middle : {A : Type 0} (before : List A) (x : A) (later : List A) → List·Memᴰ x (before ++ (x ∷ later))

@@ -15,7 +15,7 @@ use Rattle.meaning.specs.Change.{Store}
 use Rattle.meaning.specs.Calls.{Outcome, refused, done, slotsIn, sized, auditCall}
 use Rattle.meaning.specs.Answers.{yields, refuses, shownPart}
 use Rattle.meaning.specs.Run.{Call, audit, tellLength, read, showLeaf, says, run}
-use Rattle.laws_history.proofs.WalkOrder.{Each, each-mem}
+use Rattle.laws.proofs.Every.{Every, every-mem, mem-every}
 use Rattle.laws_history.proofs.Local.{Same}
 use Rattle.laws_history.proofs.Started.{blank, held, FromRun, run-slots}
 use Rattle.laws_history.proofs.Answered.{Exact, FirstOther, each-or-first}
@@ -25,32 +25,27 @@ use Rattle.laws_sound.proofs.sound.Pools.{allSlots}
 use Rattle.laws_sound.proofs.again.Done.{Good}
 use Rattle.laws_sound.proofs.again.Runs.{run-good, good-passes}
 use Rattle.promises.proofs.Said.{saidBy, oneNumber, allBytes, leafShown, said-refused, refused-said, said-done, says-audit, says-length, says-read, says-show}
-use Rattle.promises.proofs.Stores.{every-mem, in-middle}
+use Rattle.promises.proofs.Stores.{in-middle}
 use Rattle.promises.specs.Demands as demands
 use Rattle.promises.specs.Demands.{AsItWas, reader, Told, Filled, DemandThree}
 
--- what holds of every member holds of each element
-mem-each : (Q : ℕ → Type 0) (xs : List ℕ) → ((x : ℕ) → List·Memᴰ x xs → Q x) → Each Q xs
-mem-each Q [] f = tt
-mem-each Q (x ∷ xs) f = (f x (List·Memᴰ·head refl), mem-each Q xs (λ y m. f y (List·Memᴰ·tail m)))
-
 -- the first slot that differs, in the words of the demand
 first-other : (e : Edition) (P P* : List ℕ) (b : Blob) (f : FirstOther e P P* (slotsOf b)) → demands.FirstOther e P P* b (f .slot)
-first-other e P P* b f = (f .before, f .later, f .split, (λ x m. each-mem (Same e P P*) (f .same) m), f .differs)
+first-other e P P* b f = (f .before, f .later, f .split, (λ x m. every-mem (Same e P P*) (f .same) m), f .differs)
 
 -- where the outcomes of a call on two pools are told apart exactly by its blob's blocks, so are its answers
 module _ {A : Type 0} (e : Edition) (S : Store) (P* : List ℕ) (b : Blob) (o o* : Outcome A) (x : Exact e (S .pool) P* (S .records) b o o*)
-    (values values* : A → List ℕ) (agree : Each (Same e (S .pool) P*) (slotsOf b) → saidBy values* o* ≡ saidBy values o) where
+    (values values* : A → List ℕ) (agree : Every (Same e (S .pool) P*) (slotsOf b) → saidBy values* o* ≡ saidBy values o) where
   abbrev P : List ℕ
   P = S .pool
 
   -- an answer as the writer's comes from the writer's blocks
-  said-only : saidBy values* o* ≡ saidBy values o → Each (Same e P P*) (slotsOf b)
+  said-only : saidBy values* o* ≡ saidBy values o → Every (Same e P P*) (slotsOf b)
   said-only h =
       ⊎-elim (λ all. all)
       (λ f.
-      let d : Each (Same e P P*) (slotsOf b) → ⊥ = λ all.
-      f .differs (each-mem (Same e P P*) all
+      let d : Every (Same e P P*) (slotsOf b) → ⊥ = λ all.
+      f .differs (every-mem (Same e P P*) all
       (subst (λ (l : List ℕ). List·Memᴰ (f .slot) l) (sym (f .split)) (in-middle (f .before) (f .slot) (f .later)))) in
       let t = x .other d in
       let here = said-refused values o (at (t .number) (t .first .slot)) (sym h ∙ refused-said values* o* _ (t .answer)) in
@@ -61,15 +56,15 @@ module _ {A : Type 0} (e : Edition) (S : Store) (P* : List ℕ) (b : Blob) (o o*
   said-other : (AsItWas e P P* b → ⊥)
       → (n s : ℕ) × demands.FirstOther e P P* b s × (4 ≤ n) × (n ≤ 7) × (saidBy values* o* ≡ refuses (at n s))
   said-other d =
-      let t = x .other (λ all. d (λ s m. each-mem (Same e P P*) all m)) in
+      let t = x .other (λ all. d (λ s m. every-mem (Same e P P*) all m)) in
       (t .number, t .first .slot, first-other e P P* b (t .first), t .low, t .high, refused-said values* o* _ (t .answer))
 
   -- so the call tells both ways
   told-by : (c : Call) → says e S c ≡ saidBy values o → says e (reader P* S) c ≡ saidBy values* o* → Told e S P* b c
   told-by c is is* = record {
     answers = (
-      (λ h s m. each-mem (Same e P P*) (said-only (sym is* ∙ h ∙ is)) m),
-      (λ all. is* ∙ agree (mem-each (Same e P P*) (slotsOf b) all) ∙ sym is),
+      (λ h s m. every-mem (Same e P P*) (said-only (sym is* ∙ h ∙ is)) m),
+      (λ all. is* ∙ agree (mem-every (Same e P P*) (slotsOf b) all) ∙ sym is),
     );
     refuses = λ d. let (n, s, first, low, high, q) = said-other d in (n, s, first, low, high, is* ∙ q);
   }

@@ -28,8 +28,9 @@ use Rattle.laws_resize.proofs.resizing.Resized.{none-new}
 use Rattle.laws_sound.proofs.again.Outcomes.{sized-lengths}
 use Rattle.laws_sound.proofs.again.Done.{Good}
 use Rattle.laws_sound.proofs.again.Runs.{run-good, run-live, run-end}
+use Rattle.laws.proofs.Every.{every-mem}
 use Rattle.promises.proofs.Said.{saidBy, oneNumber, allBytes, said-done, says-audit, says-read}
-use Rattle.promises.proofs.Stores.{every-mem, in-middle, good-is, gives-length, gives-bytes, gives-leaf, gives-count, is-alive}
+use Rattle.promises.proofs.Stores.{in-middle, good-is, gives-length, gives-bytes, gives-leaf, gives-count, is-alive}
 use Rattle.promises.proofs.Done.{create-turns, write-turns, resize-turns, delete-turns}
 use Rattle.promises.specs.Demands.{slotsAt, blobAt, newAt, Opened, bareTree, shapeOf, Passes, Finds, Became, DemandTwo}
 

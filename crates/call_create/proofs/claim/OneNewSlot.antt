@@ -20,7 +20,6 @@ use Rattle.meaning.specs.Calls.{done, refuseIf, usable, refuseFull, become, cre
 use Rattle.meaning.specs.Answers.{createAnswer, Ends}
 use Rattle.meaning.specs.declared.Edition.{Edition}
 use Rattle.meaning.specs.declared.Refusal.{Refusal}
-use Rattle.meaning.specs.declared.Created.{Created}
 use Rattle.meaning.specs.declared.Created.the-variants as createdCase
 use Rattle.laws.proofs.Inversions.{by-test, both-true}
 use Rattle.check_gate.specs.Gate.{Whole}

@@ -37,9 +37,6 @@ module _ (e : Edition) (p : Proper e) (n : ℕ) (P row : List ℕ) (k offset pos
   pub not-past : pos + m ≤ length out
   not-past = omega arith
 
-  pub end-fits : Fits w64 (pos + m)
-  end-fits = record { fits = omega (arith, not-past, g .word) }
-
   pub start-fits : Fits w64 (16 + (offset + pos) % e .leaf)
   start-fits = record { fits = omega (arith, within-below e p (offset + pos), p .byte) }
 

@@ -90,18 +90,6 @@ lent-nothing l [] h = refl
 lent-nothing l (x ∷ ys) h = absurd (omega arith)
 
 -- the walks from all roots are a step at each slot
-map-then : {A B C : Type 0} (g : B → C) (F : Found A) (k : A → List ℕ → Found B)
-    → mapFound g (andThen F k) ≡ andThen F (λ a seen. mapFound g (k a seen))
-unfolding mapFound andThen
-map-then g (fault r) k = refl
-map-then g (fine a seen) k = refl
-
-then-map : {A B C : Type 0} (g : A → B) (F : Found A) (k : B → List ℕ → Found C)
-    → andThen (mapFound g F) k ≡ andThen F (λ a seen. k (g a) seen)
-unfolding mapFound andThen
-then-map g (fault r) k = refl
-then-map g (fine a seen) k = refl
-
 rest-noted : (named : ℕ) (x : Noted) (b : Blob) (F : Found (List Blob))
     → mapFound (noteNamed named x) (andThen F (λ bs seen. fine (b ∷ bs) seen)) ≡ mapFound (noteNamed named (noteIfNamed named x b)) F
 unfolding mapFound andThen noteNamed

@@ -15,7 +15,7 @@ use Rattle.meaning.specs.Tree.{slotsOf}
 use Rattle.meaning.specs.Refusals.{nowhere}
 use Rattle.meaning.specs.Calls.{Outcome, refused, refuseIf, refuseWorn}
 use Rattle.laws.proofs.Inversions.{by-test, both-true, true-both}
-use Rattle.laws.proofs.Roots.{in-range}
+use Rattle.laws.proofs.Ranges.{in-range}
 use Rattle.laws_resize.specs.growth.Sites.{Site, sitesOf, Sited, absent, at, sited}
 use Rattle.laws_resize.proofs.growth.Sites.{site-slots}
 use Rattle.check_survey.specs.sites.Spelt.{blobAt}

@@ -13,7 +13,7 @@ use Rattle.meaning.specs.declared.Edition.{Edition}
 use Rattle.meaning.specs.Lists.{pick, both}
 use Rattle.meaning.specs.Edition.{Proper}
 use Rattle.meaning.specs.Bytes.{Cell, sameCell, state, usableSlot}
-use Rattle.meaning.specs.Tree.{Blob, rootOf, leavesOf, cellsOf, lengthOf, Held, nothing, just, held}
+use Rattle.meaning.specs.Tree.{Blob, rootOf, leavesOf, cellsOf, lengthOf, nothing, just, held}
 use Rattle.meaning.specs.Change.{freed, renewed, changed}
 use Rattle.laws.proofs.Inversions.{by-test, both-true, true-both, same-self}
 use Rattle.laws_resize.specs.growth.Sites.{Site, sitesOf, Sited, absent, at, sited, heldBy, same, rootRow}
@@ -29,12 +29,6 @@ use Rattle.laws_resize.proofs.growth.Resized.{Standing}
 same-cell : (c : Cell) → sameCell c c ≡ true
 unfolding sameCell both
 same-cell c = rw (eq-eqb (c .height) (c .height) refl) (same-self (c .items))
-
--- what is as it was does not change
-pub unchanged : (e : Edition) (R : List ℕ) (state s : ℕ) (v : Held) → changed e R state s v v ≡ []
-unfolding changed pick
-unchanged e R state s nothing = refl
-unchanged e R state s (just c) = rw (same-cell c)
 
 -- a slot that held a cell and holds one is renewed if they differ
 changed-both : (e : Edition) (R : List ℕ) (taken s : ℕ) (old new : Cell)

@@ -17,6 +17,7 @@ use Rattle.meaning.specs.Lists.{pick}
 use Rattle.meaning.specs.Bytes.{Cell}
 use Rattle.meaning.specs.Shape.{up}
 use Rattle.meaning.specs.Tree.{Tree, slotOf, atSlot}
+use Rattle.laws.proofs.TreeSlots.{moved-slot}
 use Rattle.laws_resize.specs.growth.Grow.{rowOf, fresh, fill, wider}
 use Rattle.laws_resize.specs.growth.Made.{topOf, made, higherMade, growMade}
 use Rattle.laws_resize.proofs.growth.Place.{row-lens, row-free, row-full, row-at, fresh-lens, fresh-free, fresh-full, fresh-at}
@@ -24,12 +25,6 @@ use Rattle.laws_resize.proofs.growth.Taller.{widerMore, higher-made}
 use Rattle.laws_resize.proofs.growth.Locate.{rowCellsAt, slots-row, row-most, fresh-most, none as noCell}
 use Rattle.laws_resize.proofs.growth.Spot.{row-spot, fill-lens, made-most, made-full, made-spot}
 use Rattle.laws_resize.proofs.growth.Order.{made-follows}
-
--- a tree in another slot
-moved-slot : (h k : ℕ) (t : Tree h) → slotOf h (atSlot h k t) ≡ k
-unfolding slotOf atSlot
-moved-slot zero k t = refl
-moved-slot (suc h) k t = refl
 
 -- one more before n
 add-more : (b n : ℕ) → b + (1 + n) ≡ suc b + n

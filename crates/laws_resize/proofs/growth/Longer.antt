@@ -1,7 +1,7 @@
 -- Longer, slot by slot: the new blocks, the root, and every other block, by the forms that code computes.
 use mathlib.Core.Path.{_≡_, refl, sym, ap, _∙_, fun-ext}
 use mathlib.Core.Bool.{true}
-use mathlib.Core.List.{List, []}
+use mathlib.Core.List.{List, [], map}
 use Prim.Native.Nat.{ℕ, zero, suc, _+_, _-_, _*_, _^_, _≤_, _<_}
 use native.Mathlib.Nat.{add-zero, mul-le-mul-left, min-zero}
 use native.Mathlib.Omega.{arith}
@@ -23,7 +23,7 @@ use Rattle.laws.proofs.Heights.{height-enough}
 use Rattle.laws.proofs.Positions.{leaf-some, leaf-at, length-by-last}
 use Rattle.laws_resize.proofs.resizing.Longer.{longer-shaped, longer-length}
 use Rattle.laws_resize.proofs.resizing.Last.{last-slot, last-slots}
-use Rattle.laws_resize.proofs.resizing.SlotCounts.{slots}
+use Rattle.laws.proofs.TreeSlots.{slots-cells}
 use Rattle.laws_resize.specs.growth.Sites.{rootRow, sites, sitesOf, sited, heldBy, Once}
 use Rattle.laws_resize.specs.growth.Forms.{past, room, space, seat, newLeaves, newBytes, grown, topCell, grownRoot, grownNew}
 use Rattle.laws_resize.specs.growth.Place.{sizes}
@@ -169,12 +169,15 @@ module _ (e : Edition) (p : Proper e) (b : Blob) (shaped : Shaped e b) (len : �
   unfolding longer
   longer-grow = grown-whole (e .fan) (p .two) k (b .height) lens free filled (e .fan ^ b .height - leafCount) has-room all-fit
 
+  -- every block stays in its slot when the last leaf fills
+  filled-slots : map (λ c. c .0) (cells (b .height) filled) ≡ map (λ c. c .0) (cellsOf b)
+  unfolding cellsOf
+  filled-slots = sym (slots-cells (b .height) filled) ∙ last-slots (b .height) filling (b .tree) ∙ slots-cells (b .height) (b .tree)
+
   -- the last leaf's bytes are no new block
   filled-blocks : length (cells (b .height) filled) ≡ length (cellsOf b)
-  unfolding slots cellsOf
   filled-blocks =
-      sym (length-map (cells (b .height) filled) (λ c. c .0)) ∙ ap length (last-slots (b .height) filling (b .tree))
-      ∙ length-map (cells (b .height) (b .tree)) (λ c. c .0)
+      sym (length-map (cells (b .height) filled) (λ c. c .0)) ∙ ap length filled-slots ∙ length-map (cellsOf b) (λ c. c .0)
 
   -- as many new blocks as the block totals differ by
   need-is : need (e .fan) (p .two) lens free k (b .height) filled ≡ needed
@@ -210,8 +213,7 @@ module _ (e : Edition) (p : Proper e) (b : Blob) (shaped : Shaped e b) (len : �
 
   -- a slot that the blob has not, the filled tree has not
   filled-lacks : (s : ℕ) → held (cellsOf b) s ≡ nothing → held (cells (b .height) filled) s ≡ nothing
-  unfolding slots cellsOf
-  filled-lacks s out = lacks-held s (cells (b .height) filled) (rw (last-slots (b .height) filling (b .tree)) (held-lacks s (cellsOf b) out))
+  filled-lacks s out = lacks-held s (cells (b .height) filled) (rw filled-slots (held-lacks s (cellsOf b) out))
 
   -- the new block q is in the q-th usable slot
   pub longer-new : Apart needed free → (q : ℕ) → q < needed → held (cellsOf b) (getD free q past) ≡ nothing

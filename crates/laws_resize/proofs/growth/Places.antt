@@ -5,8 +5,7 @@ use mathlib.Core.Path.{_≡_, refl, sym, ap, ap₂, _∙_}
 use mathlib.Core.Logic.{_⊎_, inl, inr}
 use mathlib.Core.Bool.{Bool, true, false}
 use mathlib.Core.List.{List, [], _∷_, _++_, map, List·Memᴰ, List·Memᴰ·head, List·Memᴰ·tail, List·Memᴰ·not-nil, List·Memᴰ·cases-cons}
-use mathlib.Core.List.{List·Memᴰ·append-cases, List·Memᴰ·eq-of-singleton}
-use Prim.Native.Nat.{ℕ, zero, suc, _+_, _-_, _*_, _^_, _≤_, _<_}
+use Prim.Native.Nat.{ℕ, zero, suc, _-_, _≤_, _<_}
 use native.Mathlib.Nat.{sub-zero}
 use native.Mathlib.Omega.{arith}
 use lib.Dec.{eqb}
@@ -23,17 +22,12 @@ use Rattle.laws_resize.specs.growth.Room.{count}
 use Rattle.laws_resize.specs.growth.Sites.{Site, counting, sites, sitesOf, topRow, rootRow, at, sited, Lacks, Once}
 use Rattle.laws_resize.specs.growth.Cuts.{ofFirst, leftmost}
 use Rattle.laws_resize.specs.growth.Forms.{past}
-use Rattle.laws_resize.proofs.growth.Cut.{full-count}
 use Rattle.laws_resize.proofs.growth.Sites.{site-slots}
 
 -- in the first of two lists, and in the second
 in-left : {A : Type 0} {x : A} {l : List A} (m : List A) → List·Memᴰ x l → List·Memᴰ x (l ++ m)
 in-left m (List·Memᴰ·head q) = List·Memᴰ·head q
 in-left m (List·Memᴰ·tail i) = List·Memᴰ·tail (in-left m i)
-
-in-right : {A : Type 0} {x : A} (l : List A) {m : List A} → List·Memᴰ x m → List·Memᴰ x (l ++ m)
-in-right [] i = i
-in-right (y ∷ l) i = List·Memᴰ·tail (in-right l i)
 
 -- a slot that is another's than these is not found among them
 lacks-other : (l : List (ℕ × Site)) (s t : ℕ) (x : Site) → Lacks (map (λ y. y .0) l) t → List·Memᴰ (s, x) l → t ≡ s → ⊥
@@ -86,109 +80,6 @@ left-row zero t = refl
 left-row (suc h) t = refl
 
 module _ (e : Edition) (some : 1 ≤ e .leaf) (two : 2 ≤ e .fan) where
-  -- the child of a row
-  record ChildAt (g first : ℕ) (slot c : ℕ) (l : List (ℕ × Site)) : Type 0 where
-    site : Site
-    listed : List·Memᴰ (slot, site) l
-    lower : site .height ≡ g
-    begins : site .first ≡ first + c * e .fan ^ g
-
-  -- of a row off its parent
-  row-child : (h i : ℕ) (edge : Bool) (ts : List (Tree h)) → InRow (ShapedTree e h false) edge ts → (c : ℕ) → c < length (map (slotOf h) ts)
-      → ChildAt h i (getD (map (slotOf h) ts) c past) c (counting (count h) (sites h) i ts)
-  unfolding InRow counting
-  row-child h i edge [] r c less = absurd (omega arith)
-  row-child h i edge (t ∷ ts) r zero less = record {
-    site = record { height = h; first = i; items = topRow h t };
-    listed = in-left _ (own-site h i t);
-    lower = refl;
-    begins = omega arith;
-  }
-  row-child h i edge (t ∷ []) r (suc c) less = absurd (omega arith)
-  row-child h i edge (t ∷ (u ∷ us)) r (suc c) less =
-      let rest = row-child h (i + count h t) edge (u ∷ us) (r .1) c (omega arith) in
-      record {
-        site = rest .site;
-        listed = in-right (sites h i t) (rest .listed);
-        lower = rest .lower;
-        begins = rest .begins ∙ omega (arith, full-count e some two h t (r .0));
-      }
-
-  -- which tree of a row a site is of
-  record TreeAt (h : ℕ) (z : ℕ × Site) (l : List (ℕ × Site)) : Type 0 where
-    tree : Tree h
-    edge : Bool
-    begins : ℕ
-    shaped : ShapedTree e h false edge tree
-    listed : List·Memᴰ z (sites h begins tree)
-    within : (y : ℕ × Site) → List·Memᴰ y (sites h begins tree) → List·Memᴰ y l
-
-  -- of any row
-  row-tree : (h i : ℕ) (edge : Bool) (ts : List (Tree h)) → InRow (ShapedTree e h false) edge ts → (z : ℕ × Site)
-      → List·Memᴰ z (counting (count h) (sites h) i ts) → TreeAt h z (counting (count h) (sites h) i ts)
-  unfolding InRow counting
-  row-tree h i edge [] r z m = absurd (List·Memᴰ·not-nil m)
-  row-tree h i edge (t ∷ []) r z m = by (List·Memᴰ·append-cases (sites h i t) m)
-    where
-      by : List·Memᴰ z (sites h i t) ⊎ List·Memᴰ z [] → TreeAt h z (sites h i t ++ [])
-      by (inl a) = record { tree = t; edge = edge; begins = i; shaped = r; listed = a; within = λ y b. in-left [] b }
-      by (inr a) = absurd (List·Memᴰ·not-nil a)
-  row-tree h i edge (t ∷ (u ∷ us)) r z m =
-      by (row-tree h (i + count h t) edge (u ∷ us) (r .1) z) (List·Memᴰ·append-cases (sites h i t) m)
-    where
-      more : List (ℕ × Site)
-      more = counting (count h) (sites h) (i + count h t) (u ∷ us)
-
-      by : (List·Memᴰ z more → TreeAt h z more) → List·Memᴰ z (sites h i t) ⊎ List·Memᴰ z more → TreeAt h z (sites h i t ++ more)
-      by rest (inl a) = record { tree = t; edge = false; begins = i; shaped = r .0; listed = a; within = λ y b. in-left more b }
-      by rest (inr a) =
-          let f = rest a in
-          record {
-            tree = f .tree;
-            edge = f .edge;
-            begins = f .begins;
-            shaped = f .shaped;
-            listed = f .listed;
-            within = λ y b. in-right (sites h i t) (f .within y b);
-          }
-
-  -- the child of a tree's top
-  top-child : (h i : ℕ) (edge : Bool) (k : ℕ) (ts : List (Tree h)) → InRow (ShapedTree e h false) edge ts → (g c : ℕ) (x : Site)
-      → x ≡ record { height = suc h; first = i; items = map (slotOf h) ts } → x .height ≡ suc g → c < length (x .items)
-      → ChildAt g (x .first) (getD (x .items) c past) c (sites (suc h) i (k, ts))
-  unfolding sites
-  top-child h i edge k ts r g c x q high less =
-      let f = row-child h i edge ts r c (rw q at less) in
-      let same : h ≡ g = omega (arith, ap (λ (z : Site). z .height) q) in
-      rw (q, ← same) (record { site = f .site; listed = List·Memᴰ·tail (f .listed); lower = f .lower; begins = f .begins })
-
-  -- the child of a block
-  tree-child : (h i : ℕ) (root edge : Bool) (t : Tree h) → ShapedTree e h root edge t → (s : ℕ) (x : Site) → List·Memᴰ (s, x) (sites h i t)
-      → (g c : ℕ) → x .height ≡ suc g → c < length (x .items) → ChildAt g (x .first) (getD (x .items) c past) c (sites h i t)
-  unfolding ShapedTree sites
-  tree-child zero i root edge t sh s x m g c high less =
-      absurd (omega (arith, ap (λ z. z .1 .height) (List·Memᴰ·eq-of-singleton m)))
-  tree-child (suc h) i root edge t sh s x m g c high less = by (tree-child h) (List·Memᴰ·cases-cons m)
-    where
-      top : Site
-      top = record { height = suc h; first = i; items = map (slotOf h) (t .1) }
-
-      by : ((i : ℕ) (root edge : Bool) (t : Tree h) → ShapedTree e h root edge t → (s : ℕ) (x : Site) → List·Memᴰ (s, x) (sites h i t)
-          → (g c : ℕ) → x .height ≡ suc g → c < length (x .items) → ChildAt g (x .first) (getD (x .items) c past) c (sites h i t))
-          → (_≡_ {A = ℕ × Site} (s, x) (t .0, top)) ⊎ List·Memᴰ (s, x) (counting (count h) (sites h) i (t .1))
-          → ChildAt g (x .first) (getD (x .items) c past) c (sites (suc h) i t)
-      by each (inl q) = top-child h i edge (t .0) (t .1) (sh .2) g c x (ap (λ z. z .1) q) high less
-      by each (inr later) =
-          let f = row-tree h i edge (t .1) (sh .2) (s, x) later in
-          let k = each (f .begins) false (f .edge) (f .tree) (f .shaped) s x (f .listed) g c high less in
-          record {
-            site = k .site;
-            listed = List·Memᴰ·tail
-                (f .within (getD (x .items) c past, k .site) (k .listed));
-            lower = k .lower;
-            begins = k .begins;
-          }
-
   -- the left edge: the first child of the first child .., k times
   left-listed : (h i k : ℕ) (root edge : Bool) (t : Tree h) → ShapedTree e h root edge t → k ≤ h
       → List·Memᴰ (leftmost h k t .0, record { height = h - k; first = i; items = leftmost h k t .1 }) (sites h i t)

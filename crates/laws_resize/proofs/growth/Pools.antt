@@ -17,7 +17,7 @@ use Rattle.meaning.specs.Walk.{fine, fromRoot, roots, closing, poolCheck}
 use Rattle.laws.proofs.Inversions.{by-test, andThen-fine, passing-fine, fine-same}
 use Rattle.laws.proofs.Marks.{walk-marks}
 use Rattle.laws.proofs.Roots.{roots-root, roots-other}
-use Rattle.laws_resize.specs.growth.Room.{Every}
+use Rattle.laws.proofs.Every.{Every}
 use Rattle.laws_resize.proofs.growth.Resized.{Standing, walk-standing}
 
 -- the numbers of a range are below its end

@@ -15,7 +15,8 @@ use Rattle.meaning.specs.Lists.{joined}
 use Rattle.meaning.specs.Tree.{Tree, leaves}
 use Rattle.meaning.specs.Shape.{mostCount, InRow, ShapedTree}
 use Rattle.laws_resize.proofs.resizing.Ends.{length-snoc, joined-snoc, row-apart, some-child}
-use Rattle.laws_resize.specs.growth.Room.{count, Every, RoomRow, Room}
+use Rattle.laws.proofs.Every.{Every}
+use Rattle.laws_resize.specs.growth.Room.{count, RoomRow, Room}
 use Rattle.laws_resize.proofs.growth.Grow.{Ends, none, last, ends}
 use Rattle.laws_resize.proofs.growth.Spot.{ofEnd-last}
 use Rattle.laws_resize.proofs.growth.Cut.{rowCount, count-cons, count-none, full-count, some-count}

@@ -14,7 +14,8 @@ use Rattle.meaning.specs.Lists.{pick, joined}
 use Rattle.meaning.specs.Tree.{Tree, Blob, atSlot, slotOf, leaves, leavesOf}
 use Rattle.meaning.specs.Resize.{lowest, chain, roomy, hang, raised, addLeaf, addLeaves}
 use Rattle.laws_resize.specs.growth.Grow.{wider, higher, grow}
-use Rattle.laws_resize.specs.growth.Room.{count, Every, Room}
+use Rattle.laws.proofs.Every.{Every}
+use Rattle.laws_resize.specs.growth.Room.{count, Room}
 use Rattle.laws_resize.proofs.growth.Grow.{hangs, row, hangs-room, hangs-none, hang-deeper, hang-here, roomy-row, pick-true, filled-by, row-by}
 
 -- one more that has it

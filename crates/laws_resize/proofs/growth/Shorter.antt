@@ -19,7 +19,7 @@ use Rattle.meaning.specs.Tree.{Tree, Blob, slotOf, atSlot, leaves, cells, rootO
 use Rattle.meaning.specs.Tree.{contentOf, leavesOf, cellsOf, slotsOf, lengthOf, nothing, just, held}
 use Rattle.meaning.specs.Shape.{up, leavesFor, heightFor, leastCount, mostCount, InRow, ShapedTree, Shaped}
 use Rattle.meaning.specs.Resize.{lastLeaf, share, lastBytes, keepRow, keep, lower, shorter}
-use Rattle.laws.proofs.Inversions.{by-test}
+use Rattle.laws.proofs.Inversions.{by-test, both-false}
 use Rattle.laws.proofs.Totals.{up-gt, leaves-some, leaves-mono, leaves-fit}
 use Rattle.laws.proofs.Heights.{height-least, height-is, height-small}
 use Rattle.laws.proofs.Shapes.{OfRow, row-counted, shaped-leaves}
@@ -62,12 +62,7 @@ module _ (e : Edition) (some : 1 ≤ e .leaf) (two : 2 ≤ e .fan) (len : ℕ) w
       rw (le-leb (stay e some two len) i late, pick-none (replaced e len (record { height = suc h; first = i; items = map (slotOf h) (t .1) })))
       (gone-row h (gone-tree h) i (t .1) late)
 
-  -- blocks lower than the new root follow the rule `cut`
-  both-false : (b : Bool) → both b false ≡ false
-  unfolding both
-  both-false true = refl
-  both-false false = refl
-
+  -- blocks lower than the new root follow the rule `cut`:
   -- of a row
   low-row : (h : ℕ) → ((i : ℕ) (t : Tree h) → h < heightOfLength e len → ruled (shortened e len) (sites h i t) ≡ ruled (cut e len) (sites h i t))
       → (i : ℕ) (ts : List (Tree h)) → h < heightOfLength e len

@@ -1,40 +1,31 @@
 -- The forms, case by case and step by step: the equations that a program's branches and loop turns cite.
-use mathlib.Core.Path.{_≡_, refl, ap, _∙_}
+use mathlib.Core.Path.{_≡_, refl, ap}
 use mathlib.Core.Bool.{Bool, true, false}
 use mathlib.Core.List.{List, _++_, append-nil}
-use Prim.Native.Nat.{ℕ, zero, suc, _+_, _-_, _*_, _/_, _%_, _^_, _≤_, _<_, min}
+use Prim.Native.Nat.{ℕ, zero, suc, _+_, _-_, _*_, _/_, _%_, _^_, _≤_, _<_}
 use native.Mathlib.Nat.{zero-min, mul-le-mul-right}
 use native.Mathlib.Omega.{arith}
 use lib.Dec.{eqb}
-use lib.ListN.{length, getD, replicate, length-append, List·getD-append}
+use lib.ListN.{length, replicate}
 use borrow.Author.Tests.{lt-ltb, le-ltb, eq-eqb, ne-eqb, le-leb, lt-leb}
 use Rattle.meaning.specs.declared.Edition.{Edition}
 use Rattle.meaning.specs.Lists.{pick, both}
 use Rattle.meaning.specs.Bytes.{Cell}
 use Rattle.meaning.specs.Tree.{nothing, just}
-use Rattle.meaning.specs.Shape.{up, leavesFor}
+use Rattle.meaning.specs.Shape.{leavesFor}
 use Rattle.laws_resize.specs.growth.Sites.{Site}
 use Rattle.laws_resize.specs.growth.Cuts.{cutRow, gone, cut, heightOfLength, replaced, shortened}
 use Rattle.laws_resize.specs.growth.Forms.{past, every, bulk, locate, inRow, room, space}
 use Rattle.laws_resize.specs.growth.Forms.{seat, places, newRow, freshCell, above, rootCell, tallCell, newCell}
-use Rattle.laws_resize.specs.growth.Forms.{newLeaves, grownRow}
+use Rattle.laws_resize.specs.growth.Forms.{grownRow}
 use Rattle.laws.proofs.Codec.{padded-fits}
 use Rattle.meaning.specs.Resize.{share}
-use lib.Seq.{getD-append-add}
 
 -- slots taken at equal steps: so many, and each its steps further
 pub every-length : (free : List ℕ) (size c k : ℕ) → length (every free size c k) ≡ c
 unfolding every
 every-length free size zero k = refl
 every-length free size (suc c) k = ap suc (every-length free size c (k + size))
-
-pub every-at : (free : List ℕ) (size c k i : ℕ) → i < c → getD (every free size c k) i past ≡ getD free (k + i * size) past
-unfolding every
-every-at free size zero k i less = absurd (omega arith)
-every-at free size (suc c) k zero less = let z : k + 0 * size ≡ k = omega arith in rw z
-every-at free size (suc c) k (suc i) less =
-    let z : k + suc i * size ≡ k + size + i * size = omega arith in
-    rw z (every-at free size c (k + size) i (omega arith))
 
 -- a higher full subtree has more blocks
 bulk-more : (fan h : ℕ) → 1 ≤ fan → bulk fan h < bulk fan (suc h)
@@ -76,26 +67,7 @@ module _ (fan : ℕ) where
   seat-beside h n p past = rw (le-ltb p (space fan h n) past)
 
 module _ (fan m : ℕ) (bytes : ℕ → ℕ) (free : List ℕ) where
-  -- a new leaf, and a new inner block: its height, its children, and the slot of each
-  pub fresh-leaf : (j k : ℕ) → freshCell fan m bytes free 0 j k ≡ record { height = 0; items = replicate (bytes j) 0 }
-  unfolding freshCell
-  fresh-leaf j k = refl
-
-  pub fresh-count : (h j k : ℕ) → length (freshCell fan m bytes free (suc h) j k .items) ≡ min fan (up (m - j) (fan ^ h))
-  unfolding freshCell newRow places
-  fresh-count h j k = every-length free (bulk fan h) (min fan (up (m - j) (fan ^ h))) (suc k)
-
-  pub fresh-child : (h j k c : ℕ) → c < min fan (up (m - j) (fan ^ h))
-      → getD (freshCell fan m bytes free (suc h) j k .items) c past ≡ getD free (k + 1 + c * bulk fan h) past
-  unfolding freshCell newRow places
-  fresh-child h j k c less =
-      let z : k + 1 + c * bulk fan h ≡ suc k + c * bulk fan h = omega arith in
-      every-at free (bulk fan h) (min fan (up (m - j) (fan ^ h))) (suc k) c less ∙ rw z
-
-  -- the root stays as it is once no leaf is left, and else rises
-  pub root-stays : (k h j b : ℕ) (top : Cell) → m ≤ j → rootCell fan m bytes free (suc k) h j b top ≡ top
-  unfolding rootCell pick
-  root-stays k h j b top done = rw (le-ltb j m done)
+  -- the root rises while a leaf is left
 
   pub root-rises : (k h j b : ℕ) (top : Cell) → j < m → rootCell fan m bytes free (suc k) h j b top
       ≡ rootCell fan m bytes free k (suc h) (j + (fan - 1) * fan ^ h) (suc b + (fan - 1) * bulk fan h) (above fan m bytes free h j b)
@@ -169,33 +141,11 @@ module _ (e : Edition) (len : ℕ) (x : Site) where
 
 -- longer, of an old block that stays where it is
 module _ (e : Edition) (len n : ℕ) (free : List ℕ) where
-  -- how many new children of height h it gets, if it has that row
-  abbrev newChildren : (h : ℕ) → List ℕ → ℕ
-  newChildren h row = min (e .fan - length row) (up (newLeaves e len n free - room (e .fan) h n) (e .fan ^ h))
-
   -- a leaf fills with zeros
   pub grown-leaf : (i : ℕ) (row : List ℕ) → length row ≤ share e len i → grownRow e len n free 0 i row
       ≡ row ++ replicate (share e len i - length row) 0
   unfolding grownRow
   grown-leaf i row fits = padded-fits (share e len i) row fits
-
-  -- an inner block has its children and the new ones
-  pub grown-count : (h i : ℕ) (row : List ℕ) → length (grownRow e len n free (suc h) i row) ≡ length row + newChildren h row
-  unfolding grownRow newRow places
-  grown-count h i row =
-      length-append row _ ∙ ap (_+_ (length row)) (every-length free (bulk (e .fan) h) (newChildren h row) (space (e .fan) h n))
-
-  -- the old ones where they were
-  pub grown-child : (h i : ℕ) (row : List ℕ) (c : ℕ) → c < length row → getD (grownRow e len n free (suc h) i row) c past ≡ getD row c past
-  unfolding grownRow
-  grown-child h i row c less = List·getD-append row _ past c less
-
-  -- and the new ones at equal steps among the usable slots
-  pub grown-fresh : (h i : ℕ) (row : List ℕ) (c : ℕ) → c < newChildren h row
-      → getD (grownRow e len n free (suc h) i row) (length row + c) past ≡ getD free (space (e .fan) h n + c * bulk (e .fan) h) past
-  unfolding grownRow newRow places
-  grown-fresh h i row c less =
-      getD-append-add row _ c past ∙ every-at free (bulk (e .fan) h) (newChildren h row) (space (e .fan) h n) c less
 
   -- a full block stays as it is
   pub grown-full : (h i : ℕ) (row : List ℕ) → length row ≡ e .fan → grownRow e len n free (suc h) i row ≡ row

@@ -11,7 +11,7 @@ use Rattle.laws_resize.specs.growth.Forms.{past}
 use lib.Dec.{eqb, ltb}
 use borrow.Author.Tests.{eqb-true}
 use Rattle.laws.proofs.Inversions.{both-true}
-use Rattle.laws.proofs.Roots.{filter-append, range-append}
+use Rattle.laws.proofs.Ranges.{filter-append, range-append}
 use Rattle.meaning.specs.Bytes.{state, recorded, lastVersion, usableSlot}
 use Rattle.meaning.specs.Lists.{pick, range, filter}
 use Rattle.laws_resize.proofs.growth.After.{Apart}

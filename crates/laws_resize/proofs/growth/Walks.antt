@@ -21,20 +21,10 @@ use Rattle.laws.proofs.Inversions.{by-test, passed-linked}
 use Rattle.laws.proofs.Walked.{leaf-found, inner-found, none-found, row-found, root-found}
 use Rattle.laws.proofs.Marks.{visit-link}
 use Rattle.laws.proofs.Roots.{visit-slot, walk-root}
-use Rattle.laws_resize.proofs.resizing.SlotCounts.{slots, slots-leaf, slots-inner, blob-slots, own-slots}
+use Rattle.laws.proofs.TreeSlots.{slots, slots-leaf, slots-inner, blob-slots, own-slots, slots-root}
 use Rattle.laws_resize.specs.growth.Sites.{Lacks, Once}
-use Rattle.laws_resize.specs.growth.Room.{Every}
+use Rattle.laws.proofs.Every.{Every, every-append, every-weaker}
 use Rattle.laws_resize.proofs.growth.Sites.{lacks-held}
-
--- what follows from a claim of each
-every-weaker : {A : Type 0} (P Q : A → Type 0) → ((x : A) → P x → Q x) → (l : List A) → Every P l → Every Q l
-every-weaker P Q f [] a = tt
-every-weaker P Q f (x ∷ l) a = (f x (a .0), every-weaker P Q f l (a .1))
-
--- of two lists
-pub every-append : {A : Type 0} (P : A → Type 0) (l m : List A) → Every P l → Every P m → Every P (l ++ m)
-every-append P [] m a b = b
-every-append P (x ∷ l) m a b = (a .0, every-append P l m (a .1) b)
 
 -- each is another than s
 others-lack : (l : List ℕ) (s : ℕ) → Every (λ x. x ≡ s → ⊥) l → Lacks l s
@@ -98,13 +88,6 @@ went-top R seen seen′ l s within w new = (
   every-weaker (New R (set seen s 1)) (New R seen) (λ x n. (unset seen s x within (n .0) .1, n .1)) l new,
 )
 
--- a blob's first slot is its root's
-own-first : (b : Blob) → slotsOf b ≡ rootOf b ∷ drop 1 (slotsOf b)
-unfolding rootOf
-own-first b =
-    let own = blob-slots b ∙ own-slots (b .height) (b .tree) in
-    own ∙ ap (λ (l : List ℕ). slotOf (b .height) (b .tree) ∷ drop 1 l) (sym own)
-
 module _ (e : Edition) (N : ℕ) (P R : List ℕ) where
   -- what a visit of a tree went through
   abbrev Visited : ℕ → Type 0
@@ -153,11 +136,10 @@ module _ (e : Edition) (N : ℕ) (P R : List ℕ) where
   module _ (seen : List ℕ) (r : ℕ) {b : Blob} {seen′ : List ℕ} (v : fromRoot e N P R seen r ≡ fine b seen′) (all : length seen ≡ N)
       (within : r < N) where
     walked : Went seen seen′ (slotsOf b) × Every (New R seen) (drop 1 (slotsOf b))
-    unfolding slotsOf slots cellsOf
     walked =
         let (t, o, q) = root-found e N P R seen r v in
         let w = visited (min (heightOf (block e P r)) (e .top)) Root true seen r t seen′ o all within in
-        rw (← q) w
+        rw (← q, blob-slots) w
 
     -- no slot of the blob twice
     pub walk-once : Once (slotsOf b)
@@ -171,7 +153,7 @@ module _ (e : Edition) (N : ℕ) (P R : List ℕ) where
     pub free-apart : state R r ≡ 2 → (s : ℕ) → state R s ≡ 0 → held (cellsOf b) s ≡ nothing
     unfolding slotsOf
     free-apart root s free =
-        let own : slotsOf b ≡ r ∷ drop 1 (slotsOf b) = own-first b ∙ ap (λ (x : ℕ). x ∷ drop 1 (slotsOf b)) (walk-root e N P R seen r v) in
+        let own : slotsOf b ≡ r ∷ drop 1 (slotsOf b) = slots-root b ∙ ap (λ (x : ℕ). x ∷ drop 1 (slotsOf b)) (walk-root e N P R seen r v) in
         let parts = others-lack (drop 1 (slotsOf b)) s
         (every-weaker (λ x. state R x ≡ 1) (λ x. x ≡ s → ⊥) (λ x one q. omega (arith, one, free, ap (state R) q)) (drop 1 (slotsOf b)) walk-parts) in
         let first : r ≡ s → ⊥ = λ q. omega (arith, root, free, ap (state R) q) in

@@ -3,21 +3,17 @@
 use mathlib.Core.Path.{_≡_, refl}
 use mathlib.Core.Logic.{_⊎_, inl, inr}
 use mathlib.Core.Bool.{Bool, true, false}
-use mathlib.Core.List.{List, [], _∷_, _++_, map, List·Memᴰ, List·Memᴰ·head, List·Memᴰ·tail, List·Memᴰ·not-nil, List·Memᴰ·cases-cons}
+use mathlib.Core.List.{List, [], _∷_, map, List·Memᴰ, List·Memᴰ·head, List·Memᴰ·tail, List·Memᴰ·not-nil, List·Memᴰ·cases-cons}
 use mathlib.Core.List.{List·Memᴰ·append-cases, List·Memᴰ·eq-of-singleton, Memᴰ·append-left, Memᴰ·append-right, Memᴰ·of-map}
-use Prim.Native.Nat.{ℕ, zero, suc, _+_, _^_, _≤_, _<_}
+use Prim.Native.Nat.{ℕ, zero, suc, _≤_}
 use native.Mathlib.Omega.{arith}
-use lib.ListN.{length, length-map, getD}
-use lib.Seq.{take-at, drop-at}
+use lib.ListN.{length, length-map}
 use Rattle.meaning.specs.declared.Edition.{Edition}
 use Rattle.meaning.specs.Lists.{joined}
-use Rattle.meaning.specs.Edition.{Proper}
-use Rattle.meaning.specs.Bytes.{Cell, encoded}
-use Rattle.meaning.specs.Tree.{Tree, Blob, slotOf, content, cells, contentOf, cellsOf, slotsOf}
+use Rattle.meaning.specs.Bytes.{Cell}
+use Rattle.meaning.specs.Tree.{Tree, Blob, slotOf, cells, cellsOf, slotsOf}
 use Rattle.meaning.specs.Shape.{mostCount, InRow, ShapedTree, Shaped}
-use Rattle.laws.proofs.Checks.{used-fits}
-use Rattle.laws.proofs.Codec.{take-small, drop-small, row-length, encoded-small, cellOf, cell-read}
-use Rattle.laws_resize.proofs.resizing.SlotCounts.{slots, slots-inner, own-slots, blob-slots}
+use Rattle.laws.proofs.TreeSlots.{slots, slots-inner, own-slots, blob-slots}
 
 -- what is in lists joined is in one of them
 in-joined : {A B : Type 0} (f : A → List B) {b : B} (l : List A) → List·Memᴰ b (joined (map f l)) → (a : A) × List·Memᴰ a l × List·Memᴰ b (f a)
@@ -35,21 +31,6 @@ joined-in : {A B : Type 0} (f : A → List B) {b : B} {a : A} {l : List A} → L
 unfolding joined
 joined-in f {b} (List·Memᴰ·head {x = x} {xs = l} q) m = Memᴰ·append-left (joined (map f l)) (rw q at m)
 joined-in f (List·Memᴰ·tail {x = x} {xs = l} i) m = Memᴰ·append-right (f x) (joined-in f i m)
-
--- numbers joined are below m only if those of each list are
-joined-small : {A : Type 0} (f : A → List ℕ) {m : ℕ} {a : A} {l : List A} → List·Memᴰ a l → ((i : ℕ) → getD (joined (map f l)) i 0 < m)
-    → (i : ℕ) → getD (f a) i 0 < m
-unfolding joined
-joined-small f {m} (List·Memᴰ·head {x = x} {xs = l} q) small =
-    rw (q, ← take-at (f x) (joined (map f l)) (length (f x)) refl) (take-small (length (f x)) (f x ++ joined (map f l)) small)
-joined-small f (List·Memᴰ·tail {x = x} {xs = l} i) small =
-    joined-small f i (rw (drop-at (f x) (joined (map f l)) (length (f x)) refl) at (drop-small (length (f x)) (f x ++ joined (map f l)) small))
-
--- a list's numbers are below m if those in it are
-members-small : {m : ℕ} (l : List ℕ) → 1 ≤ m → ((x : ℕ) → List·Memᴰ x l → x < m) → (i : ℕ) → getD l i 0 < m
-members-small [] some each i = some
-members-small (x ∷ l) some each zero = each x (List·Memᴰ·head refl)
-members-small (x ∷ l) some each (suc i) = members-small l some (λ y m. each y (List·Memᴰ·tail m)) i
 
 -- each of a row is on the edge or off it
 in-row : {A : Type 0} (on : Bool → A → Type 0) (edge : Bool) {x : A} (l : List A) → InRow on edge l → List·Memᴰ x l → (edge′ : Bool) × on edge′ x
@@ -111,30 +92,3 @@ module _ (b : Blob) (c : ℕ × Cell) (within : List·Memᴰ c (cellsOf b)) wher
       (λ h t root edge s. rw (length-map (t .1) (slotOf h)) (s .1))
       (λ h t u c i each root edge s. let r = in-row (ShapedTree e h false) edge (t .1) (s .2) i in each false (r .0) (r .1))
       (b .height) (b .tree) c within true true s
-
-  -- a leaf's bytes are below what the content's are below
-  pub cell-small : {m : ℕ} → ((i : ℕ) → getD (contentOf b) i 0 < m) → c .1 .height ≡ 0 → (i : ℕ) → getD (c .1 .items) i 0 < m
-  unfolding cellsOf contentOf content
-  cell-small {m} small =
-      by-cell (λ h t c. ((i : ℕ) → getD (content h t) i 0 < m) → c .1 .height ≡ 0 → (i : ℕ) → getD (c .1 .items) i 0 < m) (λ t small leaf. small)
-      (λ h t small leaf. absurd (omega arith)) (λ h t u c i each small leaf. each (joined-small (content h) i small) leaf)
-      (b .height) (b .tree) c within small
-
-  module _ (e : Edition) (p : Proper e) (s : Shaped e b) where
-    -- it is read back from the block that it is written as, if the blob's slots have four bytes
-    pub cell-decodes : ((x : ℕ) → List·Memᴰ x (slotsOf b) → x < 2 ^ 32) → (slot version : ℕ)
-        → cellOf (c .1 .height) (encoded e (c .1) slot version) ≡ c .1
-    cell-decodes few slot version =
-        cell-read e p (c .1) slot version
-        (rw (row-length (c .1 .height) (c .1 .items)) (used-fits e p (c .1 .height) (length (c .1 .items)) (cell-most e s)))
-        (λ inner. members-small (c .1 .items) (omega arith) (λ x m. few x (cell-children inner x m)))
-
-    -- that block is bytes, if the content is and the root is no higher than it may be
-    pub cell-written : ((i : ℕ) → getD (contentOf b) i 0 < 256) → b .height ≤ e .top → (slot version i : ℕ)
-        → getD (encoded e (c .1) slot version) i 0 < 256
-    cell-written small low slot version =
-        encoded-small e (c .1) slot version (p .bytes) (omega (arith, cell-height, p .low)) (by (c .1 .height) (cell-most e s)) (cell-small small)
-      where
-        by : (h : ℕ) → length (c .1 .items) ≤ mostCount e h → length (c .1 .items) < 256
-        by zero le = unfold mostCount in omega (arith, p .byte)
-        by (suc h) le = unfold mostCount in omega (arith, p .byte, p .fills)

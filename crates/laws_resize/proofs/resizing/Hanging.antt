@@ -17,7 +17,8 @@ use Rattle.meaning.specs.Shape.{leastCount, mostCount, InRow, ShapedTree}
 use Rattle.meaning.specs.Resize.{Grown, lowest, chain, onLast, roomy, hang}
 use Rattle.laws.proofs.Shapes.{OfRow, row-counted}
 use Rattle.laws_resize.proofs.resizing.Ends.{by-last, length-snoc, joined-snoc, onLast-snoc, ofLast-snoc, row-snoc, row-apart, some-child}
-use Rattle.laws_resize.proofs.resizing.SlotCounts.{slots, slots-leaf, slots-inner, row-size, row-times, times}
+use Rattle.laws.proofs.TreeSlots.{slots, slots-leaf, slots-inner}
+use Rattle.laws_resize.proofs.resizing.SlotCounts.{row-size, row-times, times}
 use Rattle.laws_resize.proofs.resizing.SlotCounts.{Grows}
 
 -- a tree in another slot has the same shape

@@ -17,7 +17,8 @@ use Rattle.meaning.specs.Shape.{leastCount, mostCount, InRow, ShapedTree}
 use Rattle.meaning.specs.Resize.{keepRow, keep}
 use Rattle.laws.proofs.Shapes.{OfTree, tree-counted}
 use Rattle.laws_resize.proofs.resizing.Ends.{row-cons, some-child}
-use Rattle.laws_resize.proofs.resizing.SlotCounts.{slots, slots-inner, times, times-append, times-cons}
+use Rattle.laws.proofs.TreeSlots.{slots, slots-inner}
+use Rattle.laws_resize.proofs.resizing.SlotCounts.{times, times-append, times-cons}
 
 -- the front of two lists in a row
 take-append : {A : Type 0} (k : ℕ) (a b : List A) → take k (a ++ b) ≡ take k a ++ take (k - length a) b

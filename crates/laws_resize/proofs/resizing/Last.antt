@@ -19,7 +19,7 @@ use Rattle.laws.proofs.Heights.{height-small}
 use Rattle.laws.proofs.Shapes.{OfTree, OfRow, tree-counted, row-counted, shaped-height}
 use Rattle.laws.proofs.Codec.{padded-length, padded-fits}
 use Rattle.laws_resize.proofs.resizing.Ends.{by-last, joined-snoc, mapLast-snoc, mapLast-length, row-snoc, row-apart, some-child}
-use Rattle.laws_resize.proofs.resizing.SlotCounts.{slots, slots-leaf, slots-inner}
+use Rattle.laws.proofs.TreeSlots.{slots, slots-leaf, slots-inner}
 
 -- a list cut or filled, as its front and zeros
 pub padded-is : (n : ℕ) (l : List ℕ) → padded n l ≡ take n l ++ replicate (n - length l) 0

@@ -18,7 +18,8 @@ use Rattle.laws.proofs.Totals.{leaves-some, leaves-fit, leaves-mono, leaves-is}
 use Rattle.laws.proofs.Heights.{height-enough}
 use Rattle.laws.proofs.Shapes.{shaped-leaves, shaped-height, shaped-slots}
 use Rattle.laws.proofs.Codec.{padded-length, padded-fits}
-use Rattle.laws_resize.proofs.resizing.SlotCounts.{slots, slots-inner, below, own-slots, moved-slots, times, blob-slots, slots-for, Grows, grows-none, grows-then}
+use Rattle.laws.proofs.TreeSlots.{slots, slots-inner, below, own-slots, moved-slots, blob-slots}
+use Rattle.laws_resize.proofs.resizing.SlotCounts.{times, slots-for, Grows, grows-none, grows-then}
 use Rattle.laws_resize.proofs.resizing.Last.{before-last, reaches-last, into-last, tall-leaves, last-length, last-joined}
 use Rattle.laws_resize.proofs.resizing.Last.{last-slot, last-slots, last-shaped, LastBytes, last-content}
 use Rattle.laws_resize.proofs.resizing.Hanging.{moved-shaped, moved-content, moved-roomy, room-none, room-some, hang-slot}

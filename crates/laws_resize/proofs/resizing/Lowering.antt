@@ -12,7 +12,8 @@ use Rattle.meaning.specs.Tree.{Tree, Blob, slotOf, atSlot, content, rootOf, con
 use Rattle.meaning.specs.Shape.{leastCount, mostCount, InRow, ShapedTree, Shaped}
 use Rattle.meaning.specs.Resize.{lastLeaf, lower}
 use Rattle.laws_resize.proofs.resizing.Ends.{mapLast-length}
-use Rattle.laws_resize.proofs.resizing.SlotCounts.{slots, slots-inner, below, own-slots, moved-slots, times, times-cons, blob-slots}
+use Rattle.laws.proofs.TreeSlots.{slots, slots-inner, below, own-slots, moved-slots, moved-slot, blob-slots}
+use Rattle.laws_resize.proofs.resizing.SlotCounts.{times, times-cons}
 use Rattle.laws_resize.proofs.resizing.Hanging.{moved-shaped, moved-content}
 
 -- a blob with other bytes in its last leaf
@@ -50,10 +51,6 @@ lower-content = by-lowering (λ h t b. contentOf b ≡ content h t) (λ t. refl)
 pub lower-root : (h : ℕ) (t : Tree h) → rootOf (lower h t) ≡ slotOf h t
 unfolding rootOf slotOf atSlot
 lower-root = by-lowering (λ h t b. rootOf b ≡ slotOf h t) (λ t. refl) (λ h r ts other. refl) (λ h r x b is. is ∙ moved-slot h r x)
-  where
-    moved-slot : (h s : ℕ) (t : Tree h) → slotOf h (atSlot h s t) ≡ s
-    moved-slot zero s t = refl
-    moved-slot (suc h) s t = refl
 
 -- no slot is taken
 pub lower-slots : (s h : ℕ) (t : Tree h) → times s (slotsOf (lower h t)) ≤ times s (slots h t)

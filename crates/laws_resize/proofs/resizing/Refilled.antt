@@ -3,52 +3,22 @@
 use mathlib.Core.Path.{_≡_, refl, sym, ap, ap₂, _∙_}
 use mathlib.Core.Bool.{Bool, true, false}
 use mathlib.Core.List.{List, [], _∷_, _++_, map, map-append, map-map}
-use Prim.Native.Nat.{ℕ, zero, suc, _+_, _-_, _≤_}
+use Prim.Native.Nat.{ℕ, zero, suc, _+_, _≤_}
 use native.Mathlib.Omega.{arith}
 use lib.Dec.{eqb}
 use lib.ListN.{length, length-append, length-drop, take, drop}
 use lib.Seq.{take-add, take-all, drop-drop, length-take-le}
-use borrow.Author.Tests.{ne-eqb}
 use Rattle.meaning.specs.declared.Edition.{Edition}
 use Rattle.meaning.specs.Lists.{pick, joined}
 use Rattle.meaning.specs.Bytes.{Cell}
-use Rattle.meaning.specs.Tree.{Tree, Blob, slotOf, content, leaves, cells, rootOf, contentOf, leavesOf, cellsOf, slotsOf, lengthOf, just, held}
+use Rattle.meaning.specs.Tree.{Tree, Blob, slotOf, content, cells, rootOf, contentOf, cellsOf, slotsOf, lengthOf}
 use Rattle.meaning.specs.Shape.{InRow, ShapedTree, Shaped}
 use Rattle.meaning.specs.Resize.{Spread, along, refill, refilled}
-use Rattle.laws.proofs.Inversions.{by-test}
 use Rattle.laws.proofs.Shapes.{blank, blank-same}
-use Rattle.laws.proofs.Walked.{leafSlots}
 
 -- a cell with a leaf's bytes put to zero
 unfoldable pub hollow : ℕ × Cell → ℕ × Cell
 hollow c = (c .0, record { height = c .1 .height; items = pick (eqb (c .1 .height) 0) (blank (c .1 .items)) (c .1 .items) })
-
--- two cells that are the same but for a leaf's bytes are in one slot
-hollow-slot : (x y : ℕ × Cell) → hollow x ≡ hollow y → x .0 ≡ y .0
-unfolding hollow
-hollow-slot x y same = ap (λ (c : ℕ × Cell). c .0) same
-
--- and if one is no leaf, they are the same
-hollow-inner : (x y : ℕ × Cell) → hollow x ≡ hollow y → (y .1 .height ≡ 0 → ⊥) → x .1 ≡ y .1
-unfolding hollow pick
-hollow-inner x y same inner =
-    let high : x .1 .height ≡ y .1 .height = ap (λ (c : ℕ × Cell). c .1 .height) same in
-    let rows = rw (ne-eqb (x .1 .height) 0 (λ z. inner (sym high ∙ z)), ne-eqb (y .1 .height) 0 inner) at (ap (λ (c : ℕ × Cell). c .1 .items) same) in
-    λ i. record { height = high i; items = rows i }
-
--- so lists of cells that are the same but for the leaves' bytes hold the same inner cells
-held-inner : (xs ys : List (ℕ × Cell)) → map hollow xs ≡ map hollow ys → (s : ℕ) (c : Cell) → held ys s ≡ just c → (c .height ≡ 0 → ⊥)
-    → held xs s ≡ just c
-unfolding held pick
-held-inner [] [] same s c there inner = there
-held-inner [] (y ∷ ys) same s c there inner = cc
-held-inner (x ∷ xs) [] same s c there inner = cc
-held-inner (x ∷ xs) (y ∷ ys) same s c there inner =
-    let first : hollow x ≡ hollow y = cc in
-    let rest : map hollow xs ≡ map hollow ys = cc in
-    rw (hollow-slot x y first) (by-test (eqb (y .0) s)
-    (λ t. rw t (let is : y .1 ≡ c = cc (rw t at there) in ap just (hollow-inner x y first (λ z. inner (sym (ap (λ (c : Cell). c .height) is) ∙ z)) ∙ is)))
-    (λ t. rw t (held-inner xs ys rest s c (rw t at there) inner)))
 
 -- a tree takes its bytes from the front of d, and leaves the rest
 unfoldable Taken : (h : ℕ) → Tree h → List ℕ → Spread (Tree h) → Type 0
@@ -154,35 +124,10 @@ keeps-cells zero d t fits =
     (blank-same (take (length (t .1)) d) (t .1) (length-take-le (length (t .1)) d fits))
 keeps-cells (suc h) d t fits = rw (along-slots h d (t .1), cells-row h (keeps-cells h) d (t .1) fits)
 
--- a tree's leaves stay in their slots
-unfoldable KeepsLeaves : ℕ → Type 0
-KeepsLeaves h = (d : List ℕ) (t : Tree h) → map (λ l. l .0) (leaves h (refill h d t .made)) ≡ map (λ l. l .0) (leaves h t)
-
--- a row's, if each tree's do
-leaves-row : (h : ℕ) → KeepsLeaves h → (d : List ℕ) (ts : List (Tree h))
-    → map (λ l. l .0) (joined (map (leaves h) (along (refill h) d ts .made))) ≡ map (λ l. l .0) (joined (map (leaves h) ts))
-unfolding KeepsLeaves along joined
-leaves-row h each d [] = refl
-leaves-row h each d (t ∷ ts) =
-    map-append (λ l. l .0) (leaves h (refill h d t .made)) (joined (map (leaves h) (along (refill h) (refill h d t .left) ts .made)))
-    ∙ ap₂ _++_ (each d t) (leaves-row h each (refill h d t .left) ts)
-    ∙ sym (map-append (λ l. l .0) (leaves h t) (joined (map (leaves h) ts)))
-
--- at every height
-keeps-leaves : (h : ℕ) → KeepsLeaves h
-unfolding KeepsLeaves refill leaves
-keeps-leaves zero d t = refl
-keeps-leaves (suc h) d t = leaves-row h (keeps-leaves h) d (t .1)
-
 -- the root stays in its slot
 pub refilled-root : (d : List ℕ) (b : Blob) → rootOf (refilled d b) ≡ rootOf b
 unfolding rootOf refilled
 refilled-root d b = refill-slot (b .height) d (b .tree)
-
--- and so does each leaf
-pub refilled-leaves : (d : List ℕ) (b : Blob) → leafSlots (refilled d b) ≡ leafSlots b
-unfolding leafSlots leavesOf refilled KeepsLeaves
-refilled-leaves d b = keeps-leaves (b .height) d (b .tree)
 
 module _ (d : List ℕ) (b : Blob) (long : length d ≡ lengthOf b) where
   -- a refilled blob's bytes are those given
@@ -200,10 +145,6 @@ module _ (d : List ℕ) (b : Blob) (long : length d ≡ lengthOf b) where
   pub refilled-cells : map hollow (cellsOf (refilled d b)) ≡ map hollow (cellsOf b)
   unfolding cellsOf refilled lengthOf contentOf KeepsCells
   refilled-cells = keeps-cells (b .height) d (b .tree) (omega arith)
-
-  -- so what a slot holds stays, if it is no leaf
-  pub refilled-inner : (s : ℕ) (c : Cell) → held (cellsOf b) s ≡ just c → (c .height ≡ 0 → ⊥) → held (cellsOf (refilled d b)) s ≡ just c
-  refilled-inner = held-inner (cellsOf (refilled d b)) (cellsOf b) refilled-cells
 
   -- every block stays in its slot
   pub refilled-slots : slotsOf (refilled d b) ≡ slotsOf b

@@ -6,7 +6,7 @@ use mathlib.Core.List.{List, _++_, append-nil, List·Memᴰ, List·Memᴰ·appen
 use Prim.Native.Nat.{ℕ, _+_, _-_, _^_, _≤_, _<_}
 use native.Mathlib.Decide.{decLe}
 use native.Mathlib.Omega.{arith}
-use lib.ListN.{length, getD, take, replicate}
+use lib.ListN.{length, take, replicate}
 use lib.Seq.{take-all}
 use borrow.Author.Tests.{le-leb, lt-leb}
 use Rattle.meaning.specs.declared.Edition.{Edition}
@@ -18,7 +18,7 @@ use Rattle.meaning.specs.Calls.{newBlocks}
 use Rattle.laws.proofs.Totals.{leaves-mono, total-mono, total-ge}
 use Rattle.laws.proofs.Heights.{height-least}
 use Rattle.laws.proofs.Shapes.{shaped-leaves, shaped-height, shaped-blocks}
-use Rattle.laws.proofs.Codec.{padded-length, padded-small}
+use Rattle.laws.proofs.Codec.{padded-length}
 use Rattle.laws_resize.proofs.resizing.SlotCounts.{times, times-append, member-times, times-member}
 use Rattle.laws_resize.proofs.resizing.Last.{padded-is}
 use Rattle.laws_resize.proofs.resizing.Longer.{longer-shaped, longer-content, longer-root, longer-slots}
@@ -78,10 +78,6 @@ module _ (e : Edition) (some : 1 ≤ e .leaf) (two : 2 ≤ e .fan) where
     unfolding lengthOf
     resized-length = ap length resized-padded ∙ padded-length len (contentOf b)
 
-    -- below what the old ones are below
-    pub resized-small : {m : ℕ} → ((i : ℕ) → getD (contentOf b) i 0 < m) → (i : ℕ) → getD (contentOf (resized e len free b)) i 0 < m
-    resized-small small = rw resized-padded (padded-small len (contentOf b) small)
-
     -- its root stays in its slot
     pub resized-root : rootOf (resized e len free b) ≡ rootOf b
     resized-root =
@@ -109,11 +105,6 @@ module _ (e : Edition) (some : 1 ≤ e .leaf) (two : 2 ≤ e .fan) where
             total-mono (e .fan) (leavesFor (e .leaf) len) (leavesFor (e .leaf) (lengthOf b)) two fewer,
             ap (total (e .fan)) (shaped-leaves e some two b s),
           )
-
-      -- it has no more blocks than it had and newBlocks
-      pub resized-more : length (cellsOf (resized e len free b)) ≤ length (cellsOf b) + newBlocks e N P R len b
-      unfolding newBlocks
-      resized-more = omega (arith, resized-blocks, shaped-blocks e some two b s)
 
       -- a blob that does not shrink has its old slots and the first newBlocks free ones
       pub resized-taken : lengthOf b ≤ len → newBlocks e N P R len b ≤ length free → (x : ℕ)

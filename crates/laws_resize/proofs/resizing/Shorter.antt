@@ -10,11 +10,12 @@ use lib.ListN.{length, length-take, take}
 use lib.Seq.{take-take}
 use Rattle.meaning.specs.declared.Edition.{Edition}
 use Rattle.meaning.specs.Tree.{Tree, Blob, rootOf, contentOf, leavesOf, slotsOf, lengthOf}
-use Rattle.meaning.specs.Shape.{leavesFor, total, ShapedTree, Shaped}
+use Rattle.meaning.specs.Shape.{leavesFor, ShapedTree, Shaped}
 use Rattle.meaning.specs.Resize.{lastLeaf, lastBytes, keep, lower, shorter}
 use Rattle.laws.proofs.Totals.{leaves-zero, leaves-some, leaves-fit, leaves-tight, leaves-is}
 use Rattle.laws.proofs.Shapes.{shaped-leaves}
-use Rattle.laws_resize.proofs.resizing.SlotCounts.{times, blob-slots, slots-for}
+use Rattle.laws.proofs.TreeSlots.{blob-slots}
+use Rattle.laws_resize.proofs.resizing.SlotCounts.{times}
 use Rattle.laws_resize.proofs.resizing.Last.{padded-is, reaches-last, into-last, tall-leaves, last-length, last-joined, last-slot, last-slots}
 use Rattle.laws_resize.proofs.resizing.Last.{last-shaped, LastBytes, last-content}
 use Rattle.laws_resize.proofs.resizing.Keeping.{keep-slot, keep-slots, inner-shaped, keep-shaped, KeptBytes, keep-content}
@@ -120,13 +121,3 @@ module _ (e : Edition) (some : 1 ≤ e .leaf) (two : 2 ≤ e .fan) where
         ∙ rw (small-leaves, small-content, take-take k (e .leaf * n) C wide)
         (last-joined e len n C (leaves-some (e .leaf) len some) (omega arith) reach
         ∙ rw (all, padded-is len C, none) (append-nil (take len C)))
-
-    -- as many as was asked
-    pub shorter-length : lengthOf (shorter e len b) ≡ len
-    unfolding lengthOf
-    shorter-length = ap length shorter-content ∙ length-take len (contentOf b) ∙ omega arith
-
-    -- it has as many blocks as its new length needs
-    pub shorter-blocks : length (slotsOf (shorter e len b)) ≡ total (e .fan) (leavesFor (e .leaf) len)
-    shorter-blocks =
-        slots-for e some two (shorter e len b) shorter-shaped ∙ ap (λ (l : ℕ). total (e .fan) (leavesFor (e .leaf) l)) shorter-length

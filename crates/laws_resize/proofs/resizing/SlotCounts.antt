@@ -1,4 +1,4 @@
--- The slots of a tree, and how often a slot stands in a list: what a resize takes and gives back is told by these counts. A tree that grows
+-- How often a slot stands in a list: what a resize takes and gives back is told by these counts. A tree that grows
 -- takes the first free slots, as many as it has blocks more; what grows twice takes them one part after the other.
 use mathlib.Core.Path.{_≡_, refl, sym, ap, _∙_}
 use mathlib.Core.List.{List, [], _∷_, _++_, map, map-append, List·Memᴰ, List·Memᴰ·head, List·Memᴰ·tail}
@@ -14,16 +14,8 @@ use Rattle.meaning.specs.declared.Edition.{Edition}
 use Rattle.meaning.specs.Shape.{leavesFor, total, Shaped}
 use Rattle.laws.proofs.Shapes.{shaped-leaves, shaped-slots}
 use Rattle.laws.proofs.Inversions.{by-test}
+use Rattle.laws.proofs.TreeSlots.{slots, slots-inner}
 use Rattle.laws_resize.proofs.resizing.Ends.{joined-snoc}
-
--- the slots of a tree, in walk order
-unfoldable pub slots : (h : ℕ) → Tree h → List ℕ
-slots h t = map (λ c. c .0) (cells h t)
-
--- a blob's are its tree's
-pub blob-slots : (b : Blob) → slotsOf b ≡ slots (b .height) (b .tree)
-unfolding slotsOf cellsOf slots
-blob-slots b = refl
 
 -- how often s stands in a list
 unfoldable pub times : ℕ → List ℕ → ℕ
@@ -53,23 +45,7 @@ times-member s [] h = absurd (omega arith)
 times-member s (x ∷ l) h =
     by-test (eqb x s) (λ t. List·Memᴰ·head (sym (eqb-true x s t))) (λ t. List·Memᴰ·tail (times-member s l (omega (arith, rw t at h))))
 
--- a part of each of a row of lists, joined
-map-joined : {A B C : Type 0} (f : B → C) (g : A → List B) (l : List A) → map f (joined (map g l)) ≡ joined (map (λ x. map f (g x)) l)
-unfolding joined
-map-joined f g [] = refl
-map-joined f g (x ∷ l) = map-append f (g x) (joined (map g l)) ∙ rw (map-joined f g l)
-
--- a leaf has its own slot
-pub slots-leaf : (t : Tree 0) → slots 0 t ≡ t .0 ∷ []
-unfolding slots cells
-slots-leaf t = refl
-
--- an inner block its own, and those of its children
-pub slots-inner : (h r : ℕ) (ts : List (Tree h)) → slots (suc h) (r, ts) ≡ r ∷ joined (map (slots h) ts)
-unfolding slots cells
-slots-inner h r ts = ap (λ l. r ∷ l) (map-joined (λ c. c .0) (cells h) ts)
-
--- one more child's come last
+-- the slots of one more child come last
 row-slots : (h r : ℕ) (front : List (Tree h)) (x : Tree h) → slots (suc h) (r, front ++ (x ∷ [])) ≡ slots (suc h) (r, front) ++ slots h x
 row-slots h r front x = slots-inner h r (front ++ (x ∷ [])) ∙ rw (joined-snoc (slots h) front x, slots-inner h r front)
 
@@ -82,22 +58,6 @@ row-size h r front x = ap length (row-slots h r front x) ∙ length-append (slot
 pub row-times : (s h r : ℕ) (front : List (Tree h)) (x : Tree h)
     → times s (slots (suc h) (r, front ++ (x ∷ []))) ≡ times s (slots (suc h) (r, front)) + times s (slots h x)
 row-times s h r front x = ap (times s) (row-slots h r front x) ∙ times-append s (slots (suc h) (r, front)) (slots h x)
-
--- the slots below a tree's own
-unfoldable pub below : (h : ℕ) → Tree h → List ℕ
-below h t = drop 1 (slots h t)
-
--- a tree's own slot comes first
-pub own-slots : (h : ℕ) (t : Tree h) → slots h t ≡ slotOf h t ∷ below h t
-unfolding slots below cells slotOf
-own-slots zero t = refl
-own-slots (suc h) t = refl
-
--- in another slot, that one
-pub moved-slots : (h s : ℕ) (t : Tree h) → slots h (atSlot h s t) ≡ s ∷ below h t
-unfolding slots below cells atSlot
-moved-slots zero s t = refl
-moved-slots (suc h) s t = refl
 
 -- a tree's slots grow by k, the first k of the free ones
 pub record Grows (free before after rest : List ℕ) : Type 0 where

@@ -9,9 +9,9 @@ use lib.ListN.{length}
 use Rattle.meaning.specs.declared.Edition.{Edition}
 use Rattle.meaning.specs.Edition.{Proper}
 use Rattle.meaning.specs.Tree.{Blob, leavesOf, lengthOf}
-use Rattle.meaning.specs.Shape.{up, leavesFor, heightFor, total, Shaped}
-use Rattle.laws.proofs.Totals.{up-tight, up-le, by-share, total-small, total-more, total-ge, total-mono}
-use Rattle.laws.proofs.Totals.{leaves-zero, leaves-up, leaves-some, leaves-mono}
+use Rattle.meaning.specs.Shape.{leavesFor, heightFor, total, Shaped}
+use Rattle.laws.proofs.Totals.{total-ge}
+use Rattle.laws.proofs.Totals.{leaves-some, leaves-mono}
 use Rattle.laws.proofs.Heights.{height-enough, height-least}
 use Rattle.laws.proofs.Shapes.{shaped-leaves, shaped-height}
 use Rattle.laws_resize.specs.growth.Forms.{bulk}
@@ -39,27 +39,6 @@ power-within fan n two some = go (heightFor fan n) (height-short fan n)
     go zero low = omega (arith, pow-zero fan, mul-le-mul-right n two)
     go (suc g) low = omega (arith, pow-succ' fan g, mul-le-mul-left {m = fan ^ g} {n = n} fan (omega (arith, low g two (omega arith))))
 
--- a length has at most as many leaves as bytes, and one
-pub leaves-within : (leaf len : ℕ) → 1 ≤ leaf → leavesFor leaf len ≤ len + 1
-leaves-within leaf zero some = omega (arith, leaves-zero leaf)
-leaves-within leaf (suc len) some =
-    omega (arith, leaves-up leaf (suc len) (omega arith), up-le (suc len) leaf (suc len) some (omega (arith, mul-le-mul-right (suc len) some)))
-
--- with a fan-out from 3 a share is at most a half
-up-half : (n k : ℕ) → 3 ≤ k → 2 ≤ n → 2 * up n k ≤ n
-up-half n k three more = half (up n k) (up-tight n k (omega arith))
-  where
-    half : (u : ℕ) → k * u < n + k → 2 * u ≤ n
-    half zero t = omega arith
-    half (suc zero) t = omega arith
-    half (suc (suc u)) t = omega (arith, mul-le-mul-right (suc u) three)
-
--- so there are two blocks for each leaf or fewer
-pub total-twice : (fan n : ℕ) → 3 ≤ fan → total fan n ≤ 2 * n
-total-twice fan n three = by-share (λ n. total fan n ≤ 2 * n) fan (omega arith)
-    (λ n few. omega (arith, total-small fan n few))
-    (λ n more rest. omega (arith, total-more fan n (omega arith) more, up-half n fan three more)) n
-
 -- the block total is at most that of a full tree of the same height
 pub total-bulk : (e : Edition) → Proper e → (n : ℕ) → 1 ≤ n → total (e .fan) n ≤ bulk (e .fan) (heightFor (e .fan) n)
 total-bulk e proper n low =
@@ -77,12 +56,7 @@ module _ (e : Edition) (proper : Proper e) (len : ℕ) where
   pub want-total : leavesFor (e .leaf) len ≤ total (e .fan) (leavesFor (e .leaf) len)
   want-total = total-ge (e .fan) (leavesFor (e .leaf) len) (proper .two)
 
-  -- they find room
-  pub want-fits : leavesFor (e .leaf) len ≤ e .fan ^ heightOfLength e len
-  unfolding heightOfLength
-  want-fits = height-enough (e .fan) (leavesFor (e .leaf) len) (proper .two)
-
-  -- at no lesser height
+  -- they find no room at a lesser height
   pub want-over : (g : ℕ) → g < heightOfLength e len → e .fan ^ g < leavesFor (e .leaf) len
   unfolding heightOfLength
   want-over g low = height-short (e .fan) (leavesFor (e .leaf) len) g (proper .two) low
@@ -106,13 +80,10 @@ module _ (e : Edition) (proper : Proper e) (b : Blob) (shaped : Shaped e b) wher
   pub blob-blocks-fit : total (e .fan) (length (leavesOf b)) ≤ bulk (e .fan) (b .height)
   blob-blocks-fit = omega (arith, blob-whole e (proper .some) (proper .two) b shaped .1)
 
-  -- longer: no fewer leaves, no fewer blocks, and no lower
+  -- longer: no fewer leaves, and no lower
   pub longer-leaves : (len : ℕ) → lengthOf b ≤ len → length (leavesOf b) ≤ leavesFor (e .leaf) len
   longer-leaves len long =
       omega (arith, shaped-leaves e (proper .some) (proper .two) b shaped, leaves-mono (e .leaf) (lengthOf b) len (proper .some) long)
-
-  pub longer-total : (len : ℕ) → lengthOf b ≤ len → total (e .fan) (length (leavesOf b)) ≤ total (e .fan) (leavesFor (e .leaf) len)
-  longer-total len long = total-mono (e .fan) (length (leavesOf b)) (leavesFor (e .leaf) len) (proper .two) (longer-leaves len long)
 
   pub longer-height : (len : ℕ) → lengthOf b ≤ len → b .height ≤ heightOfLength e len
   unfolding heightOfLength

@@ -149,19 +149,7 @@ module _ (e : Edition) (proper : Proper e) (b : Blob) (shaped : Shaped e b) (s :
   site-within =
       tree-within e (proper .some) (proper .two) (b .height) 0 true true (b .tree) shaped s x (sited-listed (sitesOf b) s x found)
 
-  -- it begins with one of them
-  pub site-first : x .first < length (leavesOf b)
-  site-first = omega (arith, site-within .before)
-
-  -- it holds no more than a block of its height may
-  pub site-most : length (x .items) ≤ mostCount e (x .height)
-  site-most = site-within .fits
-
-  -- a leaf's row is its bytes
-  pub site-leaf : x .height ≡ 0 → x .items ≡ getD (leavesOf b) (x .first) (0, []) .1
-  site-leaf low = within-leaf e proper b shaped x site-within low
-
-  -- and no more than its share
+  -- a leaf has no more than its share of any length that is no less
   pub leaf-share : (len : ℕ) → lengthOf b ≤ len → x .height ≡ 0 → length (x .items) ≤ share e len (x .first)
   leaf-share len long low = within-share e proper b shaped x site-within len long low
 

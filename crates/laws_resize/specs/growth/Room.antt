@@ -4,15 +4,11 @@ use mathlib.Core.List.{List, [], _∷_, _++_}
 use Prim.Native.Nat.{ℕ, zero, suc, _+_, _-_, _*_, _^_, _<_}
 use lib.ListN.{length}
 use Rattle.meaning.specs.Tree.{Tree, leaves}
+pub use Rattle.laws.proofs.Every.{Every}
 
 -- how many leaves a tree has
 abbrev pub count : (h : ℕ) → Tree h → ℕ
 count h t = length (leaves h t)
-
--- each has it
-abbrev pub Every : {A : Type 0} → (A → Type 0) → List A → Type 0
-Every P [] = Unit {0}
-Every P (x ∷ xs) = P x × Every P xs
 
 -- a row whose elements are full but for the last, in a block of fan places, each for each leaves
 pub record RoomRow {A : Type 0} (P : A → ℕ → Type 0) (fan each : ℕ) (row : List A) (r : ℕ) : Type 0 where

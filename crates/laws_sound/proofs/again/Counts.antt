@@ -19,9 +19,11 @@ use Rattle.laws.proofs.Inversions.{never, by-test}
 use Rattle.laws.proofs.Codec.{state-known}
 use Rattle.laws_resize.proofs.resizing.SlotCounts.{times, times-append, times-cons, slots-for}
 use Rattle.laws_sound.proofs.sound.TimesListed.{times-none, times-same, times-other, by-times, Each, each-first, each-rest, range-has}
-use Rattle.laws_sound.proofs.sound.Cells.{Every}
+use Rattle.laws.proofs.Every.{Every}
 use Rattle.laws_sound.proofs.sound.Blobs.{Lies}
-use Rattle.laws_sound.proofs.sound.Pools.{isHead, allSlots, all-none, all-cons, slots-root, Pool, all-within, all-live}
+use Rattle.laws.proofs.TreeSlots.{slots-root}
+use Rattle.laws.proofs.Ranges.{filter-few}
+use Rattle.laws_sound.proofs.sound.Pools.{isHead, allSlots, all-none, all-cons, Pool, all-within, all-live}
 use Rattle.laws_sound.proofs.sound.Replaced.{filter-same}
 
 -- a test that passes one number more than another does
@@ -46,14 +48,6 @@ pub filter-none : (p : ℕ → Bool) (from n : ℕ) → ((s : ℕ) → p s ≡ f
 unfolding filter range pick
 filter-none p from zero h = refl
 filter-none p from (suc n) h = rw (h from) (filter-none p (suc from) n h)
-
--- a test passes no more numbers than there are
-filter-few : (p : ℕ → Bool) (from n : ℕ) → length (filter p (range from n)) ≤ n
-unfolding filter range pick
-filter-few p from zero = omega arith
-filter-few p from (suc n) =
-    let rest = filter-few p (suc from) n in
-    by-test (p from) (λ t. rw t (omega arith)) (λ t. rw t (omega arith))
 
 -- whether a slot is in a list
 unfoldable pub isIn : List ℕ → ℕ → Bool

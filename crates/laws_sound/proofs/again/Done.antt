@@ -11,7 +11,7 @@ use Rattle.meaning.specs.declared.Edition.{Edition}
 use Rattle.meaning.specs.Lists.{pick}
 use Rattle.meaning.specs.Edition.{Proper}
 use Rattle.meaning.specs.Bytes.{Cell, state, recorded, lastVersion}
-use Rattle.meaning.specs.Shape.{leastCount, mostCount, ShapedTree, Shaped}
+use Rattle.meaning.specs.Shape.{leastCount, ShapedTree, Shaped}
 use Rattle.meaning.specs.Tree.{Blob, cells, rootOf, slotOf, cellsOf, slotsOf}
 use Rattle.meaning.specs.Change.{Change, Store, changedBy}
 use Rattle.meaning.specs.Resize.{lowest}
@@ -20,7 +20,8 @@ use Rattle.meaning.specs.Calls.{deleteCall, deleteIn, deleteOn, refuseFull}
 use Rattle.meaning.specs.Walk.{poolCheck}
 use Rattle.laws_resize.proofs.resizing.SlotCounts.{times}
 use Rattle.laws_sound.proofs.sound.TimesListed.{by-slot, by-times, Each, each-none, each-more}
-use Rattle.laws_sound.proofs.sound.Cells.{Every, cellSlots}
+use Rattle.laws.proofs.Every.{Every}
+use Rattle.laws_sound.proofs.sound.Cells.{cellSlots}
 use Rattle.laws_sound.proofs.sound.Blobs.{blob-fits}
 use Rattle.laws_sound.proofs.again.Usable.{Usable, usable-each, lowest-in}
 use Rattle.laws_sound.proofs.sound.Pools.{Pool, pool-found}

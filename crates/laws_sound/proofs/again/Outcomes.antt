@@ -23,7 +23,7 @@ use Rattle.meaning.specs.Calls.{refuseWorn}
 use Rattle.laws.proofs.Inversions.{by-test, both-true}
 use Rattle.laws_resize.proofs.resizing.SlotCounts.{times, times-append}
 use Rattle.laws_sound.proofs.sound.TimesListed.{range-has, Each, each-none, each-more, marked, no-flag}
-use Rattle.laws_sound.proofs.sound.Cells.{every-apart}
+use Rattle.laws.proofs.Every.{every-right}
 use Rattle.laws_sound.proofs.sound.Blobs.{Lies, lies-walk}
 use Rattle.laws_sound.proofs.sound.Pools.{allSlots, all-append, all-cons, Pool, pool-found}
 use Rattle.laws_sound.proofs.sound.Replaced.{Parted}
@@ -110,7 +110,7 @@ opens-passes e P R o s = rw (s .sized) (records-pass R 0 (slotsIn e P) o (λ x l
 
 -- a blob of a pool lies in it
 pub among-lies : (e : Edition) (N : ℕ) (P R : List ℕ) (before after : List Blob) (b : Blob) → Pool e N P R (before ++ (b ∷ after)) → Lies e N P R b
-among-lies e N P R before after b q = every-apart (Lies e N P R) before (b ∷ after) (q .lie) .1 .0
+among-lies e N P R before after b q = every-right (Lies e N P R) before (b ∷ after) (q .lie) .0
 
 -- and has no slot twice
 pub among-once : (e : Edition) (N : ℕ) (P R : List ℕ) (before after : List Blob) (b : Blob) → Pool e N P R (before ++ (b ∷ after))

@@ -10,7 +10,7 @@ use Rattle.meaning.specs.Bytes.{state}
 use Rattle.meaning.specs.Tree.{Blob, rootOf}
 use Rattle.meaning.specs.Calls.{Outcome, withBlob}
 use Rattle.laws_sound.proofs.sound.TimesListed.{Each, each-first, each-rest, each-filter, range-within}
-use Rattle.laws_sound.proofs.sound.Cells.{Every}
+use Rattle.laws.proofs.Every.{Every}
 use Rattle.laws_sound.proofs.sound.Pools.{isHead}
 use Rattle.laws_sound.proofs.sound.Replaced.{Parted, filter-parted}
 use Rattle.laws_sound.proofs.sound.Steps.{one-root, no-root}

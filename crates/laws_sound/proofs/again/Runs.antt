@@ -25,7 +25,7 @@ use Rattle.laws.proofs.Inversions.{by-test}
 use Rattle.laws.proofs.Parts.{pasted-length}
 use Rattle.laws.proofs.Codec.{padded-length}
 use Rattle.laws_sound.proofs.sound.TimesListed.{marked}
-use Rattle.laws_sound.proofs.sound.Cells.{Every}
+use Rattle.laws.proofs.Every.{Every}
 use Rattle.laws_sound.proofs.sound.Pools.{allSlots, Pool, pool-passes, pool-one}
 use Rattle.laws_sound.proofs.again.Outcomes.{opens-passes}
 use Rattle.laws_sound.proofs.again.Counts.{entries, live-count, all-blocks}

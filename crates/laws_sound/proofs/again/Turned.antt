@@ -22,7 +22,7 @@ use Rattle.laws_resize.proofs.resizing.SlotCounts.{times, slots-for}
 use Rattle.laws_resize.proofs.resizing.Refilled.{refilled-root, refilled-content, refilled-shaped, refilled-slots}
 use Rattle.laws_resize.proofs.resizing.Resized.{resized-shaped, resized-padded, resized-length, resized-root, resized-slots, resized-low}
 use Rattle.laws_sound.proofs.sound.TimesListed.{by-times, Each, times-take}
-use Rattle.laws_sound.proofs.sound.Cells.{Every}
+use Rattle.laws.proofs.Every.{Every}
 use Rattle.laws_sound.proofs.sound.Blobs.{Lies, lies-within}
 use Rattle.laws_sound.proofs.again.Usable.{Usable, usable-each, usable-once}
 use Rattle.laws_sound.proofs.sound.Pools.{lies-live, Pool}

@@ -10,7 +10,7 @@ use borrow.Author.Tests.{eqb-true, eqb-false, eq-eqb}
 use lib.Dec.{eqb}
 use lib.ListN.{length}
 use Rattle.meaning.specs.declared.Edition.{Edition}
-use Rattle.meaning.specs.Lists.{pick, range, zeros, sameList}
+use Rattle.meaning.specs.Lists.{pick, zeros, sameList}
 use Rattle.meaning.specs.Edition.{Proper}
 use Rattle.meaning.specs.Bytes.{Cell, sameCell, block, recordOf, recordWith, recordAt, state, stateOf, recorded, soundRecord}
 use Rattle.meaning.specs.Tree.{Held, nothing, just, held}
@@ -19,9 +19,10 @@ use Rattle.meaning.specs.Calls.{become}
 use Rattle.laws.proofs.Inversions.{by-test, both-true, same-list, list-zeros, record-sound}
 use Rattle.laws.proofs.Codec.{state-of, recorded-of, state-known, record-kept}
 use Rattle.laws_resize.proofs.resizing.SlotCounts.{times, times-cons}
-use Rattle.laws_sound.proofs.sound.TimesListed.{times-none, times-same, times-other, by-times, Each, range-within}
-use Rattle.laws_sound.proofs.sound.Cells.{Every, every-at, cellSlots, Reads, Written, Fits, written-reads}
-use Rattle.laws_sound.proofs.sound.Puts.{made, then-block, then-record, Rising, rising-once, named, changes-rising, changes-named}
+use Rattle.laws_sound.proofs.sound.TimesListed.{times-none, times-same, times-other, by-times}
+use Rattle.laws.proofs.Every.{Every}
+use Rattle.laws_sound.proofs.sound.Cells.{every-at, cellSlots, Reads, Written, Fits, written-reads}
+use Rattle.laws.proofs.Puts.{made, then-block, then-record}
 use Rattle.laws_sound.proofs.sound.Replaced.{Kept, kept-state, kept-reads}
 
 -- from nothing that is something, anything
@@ -207,25 +208,3 @@ module _ (e : Edition) (N : ℕ) (S : Store) (taken : ℕ) (old new : List (ℕ 
         go (just b) nothing y = free-sound (recorded (S .records) s)
         go (just b) (just c) y =
             by-test (sameCell b c) (λ t. rw t was) (λ t. rw t (next (state (S .records) s) (state-known (S .records) s was) (y c refl)))
-
--- the changes by which cells become others
-module _ (e : Edition) (N : ℕ) (P R : List ℕ) (taken : ℕ) (old new : List (ℕ × Cell)) where
-  -- name rising slots
-  pub become-rising : Rising 0 (named (become e N P R taken old new))
-  unfolding become
-  become-rising = changes-rising e R taken (held old) (held new) 0 N
-
-  -- so none twice
-  pub become-once : (s : ℕ) → times s (named (become e N P R taken old new)) ≤ 1
-  become-once = rising-once 0 (named (become e N P R taken old new)) become-rising
-
-  -- which are slots of old or of new cells, below the pool's end
-  pub become-named : Each (λ s. (s < N) × (1 ≤ times s (cellSlots old) + times s (cellSlots new))) (named (become e N P R taken old new))
-  unfolding become
-  become-named =
-      changes-named e R taken (held old) (held new) (λ s. (s < N) × (1 ≤ times s (cellSlots old) + times s (cellSlots new))) (range 0 N)
-      (λ s h touched. (
-        omega (arith, range-within 0 N s h .1),
-        by-times s (cellSlots old) (λ o. omega arith) (λ o. by-times s (cellSlots new)
-            (λ n. omega arith) (λ n. absurd (touched (held-none old s o) (held-none new s n)))),
-      ))

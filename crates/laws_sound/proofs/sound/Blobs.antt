@@ -21,10 +21,12 @@ use Rattle.laws.proofs.Inversions.{by-test, fine-andThen}
 use Rattle.laws.proofs.Roots.{walk-root}
 use Rattle.laws.proofs.Walked.{mem-at, root-found, walk-shaped}
 use Rattle.laws_resize.proofs.resizing.Cells.{cell-children, cell-most}
-use Rattle.laws_resize.proofs.resizing.SlotCounts.{member-times, blob-slots, slots}
+use Rattle.laws.proofs.TreeSlots.{blob-slots, slots}
+use Rattle.laws_resize.proofs.resizing.SlotCounts.{member-times}
 use Rattle.laws_sound.proofs.sound.TimesListed.{Each, Clear, marked}
-use Rattle.laws_sound.proofs.sound.Cells.{Every, every-member, every-map, every-both, every-each, cellSlots}
-use Rattle.laws_sound.proofs.sound.Cells.{Reads, Written, Fits, written-reads}
+use Rattle.laws.proofs.Every.{Every, mem-every}
+use Rattle.laws_sound.proofs.sound.Cells.{cellSlots}
+use Rattle.laws_sound.proofs.sound.Cells.{Reads, Fits}
 use Rattle.laws_sound.proofs.sound.Walks.{Parts, Flags, Finds, found-so, Tells, tree-read, reads-within}
 
 -- a blob lies in a pool
@@ -95,29 +97,7 @@ row-small N few row low i =
 -- the cells of a blob that has its shape fit, if its slots are in the pool
 pub blob-fits : (e : Edition) (N : ℕ) → N ≤ 2 ^ 32 → (b : Blob) → Shaped e b → Each (λ s. s < N) (slotsOf b) → Every (λ c. Fits e (c .1)) (cellsOf b)
 blob-fits e N few b shape low =
-    every-member (cellsOf b) (λ c m. record {
+    mem-every (λ c. Fits e (c .1)) (cellsOf b) (λ c m. record {
       count = cell-most b c m e shape;
       small = λ inner. row-small N few (c .1 .items) (λ x k. low x (member-times x (cell-children b c m inner x k)));
     })
-
--- so a blob of the right shape, each of whose cells is written at its slot, with the right records, lies in the pool
-pub written-lies : (e : Edition) → Proper e → (N : ℕ) (P R : List ℕ) → N ≤ 2 ^ 32 → (b : Blob) → b .height ≤ e .top → Shaped e b
-    → state R (rootOf b) ≡ 2 → Parts R (drop 1 (slotsOf b)) → Every (Written e N P R) (cellsOf b) → Lies e N P R b
-unfolding slotsOf cellSlots
-written-lies e p N P R few b low shape root parts written =
-    let within : Each (λ s. s < N) (slotsOf b) = every-each (λ s. s < N) (cellsOf b) (every-map (cellsOf b) (λ c w. w .within) written) in
-    let fits = blob-fits e N few b shape within in
-    record {
-      low = low;
-      root = root;
-      shape = shape;
-      reads = every-both (cellsOf b) (λ c f w. written-reads e p N P R few c f w) fits written;
-      parts = parts;
-    }
-
--- and a walk from its root finds it as it is
-pub written-walk : (e : Edition) → Proper e → (N : ℕ) (P R : List ℕ) → N ≤ 2 ^ 32 → (seen : List ℕ) (b : Blob) → b .height ≤ e .top → Shaped e b
-    → state R (rootOf b) ≡ 2 → Parts R (drop 1 (slotsOf b)) → Every (Written e N P R) (cellsOf b) → Clear seen (slotsOf b)
-    → fromRoot e N P R seen (rootOf b) ≡ fine b (marked seen (slotsOf b))
-written-walk e p N P R few seen b low shape root parts written clear =
-    lies-walk e N P R seen b (written-lies e p N P R few b low shape root parts written) clear

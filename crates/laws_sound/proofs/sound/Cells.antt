@@ -2,7 +2,7 @@
 -- cell's height, count and row, and zeros after: what checks 2 and 3 ask besides the ranges of a count.
 use mathlib.Core.Path.{_≡_, refl, ap}
 use mathlib.Core.Bool.{Bool, true}
-use mathlib.Core.List.{List·Memᴰ, List·Memᴰ·head, List·Memᴰ·tail, List, [], _∷_, _++_, map}
+use mathlib.Core.List.{List, [], _∷_, _++_, map}
 use Prim.Native.Nat.{ℕ, suc, _+_, _^_, _≤_, _<_}
 use native.Mathlib.Omega.{arith}
 use lib.ListN.{length, getD, take, drop}
@@ -11,43 +11,15 @@ use Rattle.meaning.specs.Lists.{joined, sameList, zeros}
 use Rattle.meaning.specs.Edition.{Proper}
 use Rattle.meaning.specs.Bytes.{Cell, itemBytes, encoded, block, heightOf, countOf, ownSlot, versionOf, recorded}
 use Rattle.meaning.specs.Shape.{leastCount, mostCount}
-use Rattle.meaning.specs.Tree.{Tree, slotOf, cells}
+use Rattle.meaning.specs.Tree.{Tree, cells}
 use Rattle.meaning.specs.Walk.{used}
 use Rattle.laws.proofs.Inversions.{Sound, same-self}
 use Rattle.laws.proofs.Checks.{used-fits}
 use Rattle.laws.proofs.Codec.{cellOf, rowOf, row-length, mark-read, height-read, count-read, slot-read, version-read, rest-read, cell-read}
-use Rattle.laws_resize.proofs.resizing.SlotCounts.{slots, times, times-cons, slots-inner, below, own-slots}
+use Rattle.laws.proofs.TreeSlots.{slots, slots-inner, slots-cells}
+use Rattle.laws.proofs.Every.{Every}
+use Rattle.laws_resize.proofs.resizing.SlotCounts.{times, times-cons}
 use Rattle.laws_sound.proofs.sound.TimesListed.{times-same, Each, each-none, each-more}
-
--- a claim of each element of a list
-abbrev pub Every : {A : Type 0} → (A → Type 0) → List A → Type 0
-Every Q [] = Unit {0}
-Every Q (x ∷ xs) = Q x × Every Q xs
-
--- from one claim of each, another
-pub every-map : {A : Type 0} {Q S : A → Type 0} (l : List A) → ((x : A) → Q x → S x) → Every Q l → Every S l
-every-map [] f q = tt
-every-map (x ∷ l) f q = (f x (q .0), every-map l f (q .1))
-
--- from two claims of each, a third
-pub every-both : {A : Type 0} {Q S T : A → Type 0} (l : List A) → ((x : A) → Q x → S x → T x) → Every Q l → Every S l → Every T l
-every-both [] f q s = tt
-every-both (x ∷ l) f q s = (f x (q .0) (s .0), every-both l f (q .1) (s .1))
-
--- of all that are there
-pub every-member : {A : Type 0} {Q : A → Type 0} (l : List A) → ((x : A) → List·Memᴰ x l → Q x) → Every Q l
-every-member [] f = tt
-every-member (x ∷ l) f = (f x (List·Memᴰ·head refl), every-member l (λ y m. f y (List·Memᴰ·tail m)))
-
--- of two lists in a row, so of each
-pub every-apart : {A : Type 0} (Q : A → Type 0) (a b : List A) → Every Q (a ++ b) → Every Q a × Every Q b
-every-apart Q [] b h = (tt, h)
-every-apart Q (x ∷ a) b h = let r = every-apart Q a b (h .1) in ((h .0, r .0), r .1)
-
--- of each list, so of both in a row
-pub every-append : {A : Type 0} (Q : A → Type 0) (a b : List A) → Every Q a → Every Q b → Every Q (a ++ b)
-every-append Q [] b f g = g
-every-append Q (x ∷ a) b f g = (f .0, every-append Q a b (f .1) g)
 
 -- the slots of cells
 unfoldable pub cellSlots : List (ℕ × Cell) → List ℕ
@@ -59,8 +31,8 @@ rowSlots h ts = joined (map (slots h) ts)
 
 -- a tree's are its cells'
 pub tree-slots : (h : ℕ) (t : Tree h) → slots h t ≡ cellSlots (cells h t)
-unfolding slots cellSlots
-tree-slots h t = refl
+unfolding cellSlots
+tree-slots = slots-cells
 
 -- an inner block's are its own and its row's
 pub slots-row : (h : ℕ) (t : Tree (suc h)) → slots (suc h) t ≡ t .0 ∷ rowSlots h (t .1)
@@ -76,11 +48,6 @@ row-none h = refl
 pub row-first : (h : ℕ) (t : Tree h) (ts : List (Tree h)) → rowSlots h (t ∷ ts) ≡ slots h t ++ rowSlots h ts
 unfolding rowSlots joined
 row-first h t ts = refl
-
--- a tree's own slot is the first
-pub slots-own : (h : ℕ) (t : Tree h) → slots h t ≡ slotOf h t ∷ drop 1 (slots h t)
-unfolding below
-slots-own h t = own-slots h t
 
 -- a claim of each cell's slot is one of each slot
 pub every-each : (Q : ℕ → Type 0) (cs : List (ℕ × Cell)) → Every (λ c. Q (c .0)) cs → Each Q (cellSlots cs)

@@ -20,12 +20,13 @@ use Rattle.laws.proofs.Inversions.{by-test, must-passed, passed-must, first-pas
 use Rattle.laws.proofs.Inversions.{fine-andThen, fine-same}
 use Rattle.laws.proofs.Positions.{joined-append}
 use Rattle.laws.proofs.Roots.{walk-root, roots-root, roots-other, roots-named}
-use Rattle.laws_resize.proofs.resizing.SlotCounts.{blob-slots, times, times-cons}
+use Rattle.laws.proofs.TreeSlots.{slots-root}
+use Rattle.laws_resize.proofs.resizing.SlotCounts.{times, times-cons}
 use Rattle.laws_sound.proofs.sound.TimesListed.{times-none, times-other, by-times}
 use Rattle.laws_sound.proofs.sound.TimesListed.{range-has, range-within, Each, each-none, each-more, each-first, each-rest, each-append}
 use Rattle.laws_sound.proofs.sound.TimesListed.{Clear, marked, marked-none, marked-append, marked-length, marked-flag, clear-append, clear-left}
 use Rattle.laws_sound.proofs.sound.TimesListed.{clear-right, no-flag}
-use Rattle.laws_sound.proofs.sound.Cells.{Every, slots-own}
+use Rattle.laws.proofs.Every.{Every}
 use Rattle.laws_sound.proofs.sound.Walks.{Flags}
 use Rattle.laws_sound.proofs.sound.Blobs.{Lies, lies-walk, lies-within, WalkFound, walk-found}
 
@@ -51,11 +52,6 @@ all-cons b bs = refl
 pub all-append : (xs ys : List Blob) → allSlots (xs ++ ys) ≡ allSlots xs ++ allSlots ys
 unfolding allSlots
 all-append xs ys = ap joined (map-append slotsOf xs ys) ∙ joined-append (map slotsOf xs) (map slotsOf ys)
-
--- a blob's first slot is its root
-pub slots-root : (b : Blob) → slotsOf b ≡ rootOf b ∷ drop 1 (slotsOf b)
-unfolding rootOf
-slots-root b = rw blob-slots (slots-own (b .height) (b .tree))
 
 module _ (e : Edition) (N : ℕ) (P R : List ℕ) where
   -- a slot of a blob other than its root is a part

@@ -13,12 +13,14 @@ use Rattle.meaning.specs.declared.Edition.{Edition}
 use Rattle.meaning.specs.Lists.{pick, range, filter, zeros}
 use Rattle.meaning.specs.Bytes.{Cell, block, recordAt, state, recorded}
 use Rattle.meaning.specs.Tree.{Blob, rootOf, cellsOf, slotsOf}
-use Rattle.laws.proofs.Roots.{filter-append, range-append}
+use Rattle.laws.proofs.Ranges.{filter-append, range-append}
 use Rattle.laws_resize.proofs.resizing.SlotCounts.{times, times-append, times-cons}
 use Rattle.laws_sound.proofs.sound.TimesListed.{times-none, times-same, by-times, Each, each-left, each-right}
-use Rattle.laws_sound.proofs.sound.Cells.{Every, every-apart, every-append, every-at, cellSlots, Reads}
+use Rattle.laws.proofs.Every.{Every, every-left, every-right, every-append}
+use Rattle.laws_sound.proofs.sound.Cells.{every-at, cellSlots, Reads}
 use Rattle.laws_sound.proofs.sound.Blobs.{Lies}
-use Rattle.laws_sound.proofs.sound.Pools.{isHead, allSlots, all-none, all-cons, all-append, slots-root, lies-part, Pool, all-within, all-live}
+use Rattle.laws.proofs.TreeSlots.{slots-root}
+use Rattle.laws_sound.proofs.sound.Pools.{isHead, allSlots, all-none, all-cons, all-append, lies-part, Pool, all-within, all-live}
 
 -- a slot's block and record stay
 pub record Kept (e : Edition) (P R P′ R′ : List ℕ) (s : ℕ) : Type 0 where
@@ -109,8 +111,8 @@ module _ (e : Edition) (N : ℕ) (P R P′ R′ : List ℕ) (before after X X′
   -- the other blobs lay in the pool
   others : Every (Lies e N P R) before × Every (Lies e N P R) after
   others =
-      let a = every-apart (Lies e N P R) before (X ++ after) (d .was .lie) in
-      (a .0, every-apart (Lies e N P R) X after (a .1) .1)
+      let lay = d .was .lie in
+      (every-left (Lies e N P R) before (X ++ after) lay, every-right (Lies e N P R) X after (every-right (Lies e N P R) before (X ++ after) lay))
 
   -- a slot of another blob is neither old nor new
   apart : (s : ℕ) → (state R s ≡ 0 → ⊥) → 1 ≤ times s (allSlots before) + times s (allSlots after)

@@ -16,11 +16,13 @@ use Rattle.meaning.specs.Change.{Store}
 use Rattle.meaning.specs.Calls.{become}
 use Rattle.laws_resize.proofs.resizing.SlotCounts.{times, times-cons}
 use Rattle.laws_sound.proofs.sound.TimesListed.{times-none, times-same, by-times, Each, each-none}
-use Rattle.laws_sound.proofs.sound.Cells.{Every, every-apart, every-at, cellSlots, Reads}
+use Rattle.laws.proofs.Every.{Every, every-left, every-right}
+use Rattle.laws_sound.proofs.sound.Cells.{every-at, cellSlots, Reads}
 use Rattle.laws_sound.proofs.sound.Walks.{Parts}
 use Rattle.laws_sound.proofs.sound.Blobs.{Lies, lies-within, blob-fits}
-use Rattle.laws_sound.proofs.sound.Puts.{then-pool, then-records}
-use Rattle.laws_sound.proofs.sound.Pools.{isHead, allSlots, all-none, all-cons, slots-root, lies-part, Pool}
+use Rattle.laws.proofs.Puts.{then-pool, then-records}
+use Rattle.laws.proofs.TreeSlots.{slots-root}
+use Rattle.laws_sound.proofs.sound.Pools.{isHead, allSlots, all-none, all-cons, lies-part, Pool}
 use Rattle.laws_sound.proofs.sound.Replaced.{Kept, replaced, Parted, one-head, heads-replaced, heads-same}
 use Rattle.laws_sound.proofs.sound.After.{Next, Ready, held-none, held-some, held-own, nothing-kept, freed-after, state-kept, state-taken}
 use Rattle.laws_sound.proofs.sound.After.{reads-after, sound-after}
@@ -98,7 +100,7 @@ module _ (e : Edition) (N : ℕ) (S : Store) (taken : ℕ) (old new : List (ℕ 
         freed-after e N S taken old new (d .ready) s low (h .0) (h .1) (held-none new s (ns s ∙ n)) in
         let free : (s : ℕ) → times s (allSlots X) ≡ 0 → 1 ≤ times s (allSlots X′) → state R s ≡ 0 =
         λ s o n. d .free s (os s ∙ o) (omega (arith, ns s)) in
-        let lay = every-apart (Lies e N P R) X after (every-apart (Lies e N P R) before (X ++ after) (was .lie) .1) .0 in
+        let lay = every-left (Lies e N P R) X after (every-right (Lies e N P R) before (X ++ after) (was .lie)) in
         replaced e N P R P′ R′ before after X X′ (record {
           was = was;
           heads = heads-replaced e N P R P′ R′ r m before after X X′ room parted head

@@ -15,20 +15,21 @@ use Rattle.meaning.specs.Lists.{both, joined}
 use Rattle.meaning.specs.Edition.{Proper}
 use Rattle.meaning.specs.Bytes.{Cell, block, childrenOf, state, recorded}
 use Rattle.meaning.specs.Tree.{Tree, slotOf, cells}
-use Rattle.meaning.specs.Shape.{mostCount, InRow, ShapedTree}
+use Rattle.meaning.specs.Shape.{InRow, ShapedTree}
 use Rattle.meaning.specs.Walk.{isRoot, linkCheck, Found, fine, isEmpty, visitRow, visit}
 use Rattle.laws.proofs.Codec.{rowOf, cellOf, row-count}
 use Rattle.laws.proofs.Inversions.{sound-passed, passed-linked, linked-passed, visited-fine, fine-andThen}
 use Rattle.laws.proofs.Roots.{visit-slot}
 use Rattle.laws.proofs.Walked.{leaf-found, inner-found, none-found, row-found, block-room}
 use Rattle.laws.proofs.Marks.{visit-link}
-use Rattle.laws_resize.proofs.resizing.SlotCounts.{slots, slots-leaf}
+use Rattle.laws.proofs.TreeSlots.{slots, slots-leaf, below, own-slots}
 use Rattle.laws_sound.proofs.sound.TimesListed.{times-none, by-slot, Each, each-none, each-more, each-first, each-rest, each-append, each-left, each-right}
 use Rattle.laws_sound.proofs.sound.TimesListed.{Clear, marked, marked-none, marked-append, marked-cons, marked-length, marked-flag, clear-rest}
 use Rattle.laws_sound.proofs.sound.TimesListed.{clear-first, clear-append}
 use Rattle.laws_sound.proofs.sound.TimesListed.{clear-left, clear-right, flag-set}
-use Rattle.laws_sound.proofs.sound.Cells.{Every, every-map, every-apart, every-append, cellSlots, rowSlots, slots-row}
-use Rattle.laws_sound.proofs.sound.Cells.{tree-slots, row-none, row-first, slots-own, every-each, Reads, reads-row, reads-sound}
+use Rattle.laws.proofs.Every.{Every, every-left, every-right, every-weaker, every-append}
+use Rattle.laws_sound.proofs.sound.Cells.{cellSlots, rowSlots, slots-row}
+use Rattle.laws_sound.proofs.sound.Cells.{tree-slots, row-none, row-first, every-each, Reads, reads-row, reads-sound}
 
 -- a row of trees is its first one and a row of the others
 pub row-uncons : {A : Type 0} (on : Bool → A → Type 0) (f : A → ℕ) (edge : Bool) (t : A) (ts : List A) → InRow on edge (t ∷ ts)
@@ -46,7 +47,7 @@ Parts R l = Each (λ s. state R s ≡ 1) l
 module _ (e : Edition) (N : ℕ) (P R : List ℕ) where
   -- each slot of cells that lie in the pool is below its end
   pub reads-within : (cs : List (ℕ × Cell)) → Every (Reads e N P R) cs → Each (λ s. s < N) (cellSlots cs)
-  reads-within cs f = every-each (λ s. s < N) cs (every-map cs (λ c r. r .within) f)
+  reads-within cs f = every-each (λ s. s < N) cs (every-weaker (Reads e N P R) (λ c. c .0 < N) (λ c r. r .within) cs f)
 
   -- so is each slot of a tree
   pub tree-within : (h : ℕ) (t : Tree h) → Every (Reads e N P R) (cells h t) → Each (λ s. s < N) (slots h t)
@@ -62,27 +63,28 @@ module _ (e : Edition) (N : ℕ) (P R : List ℕ) where
   rows-found-so : (h : ℕ) → Finds h → (q : ℕ) (edge : Bool) (seen : List ℕ) (ts : List (Tree h)) → InRow (ShapedTree e h false) edge ts
       → Every (Reads e N P R) (joined (map (cells h) ts)) → Parts R (rowSlots h ts) → Clear seen (rowSlots h ts)
       → visitRow e N P R (visit e N P R h) q edge (map (slotOf h) ts) seen ≡ fine ts (marked seen (rowSlots h ts))
-  unfolding visitRow joined isRoot Finds
+  unfolding visitRow joined isRoot Finds below
   rows-found-so h each q edge seen [] shape reads parts clear = rw (row-none h, marked-none)
   rows-found-so h each q edge seen (t ∷ ts) shape reads parts clear =
       let s = row-uncons (ShapedTree e h false) (slotOf h) edge t ts shape in
-      let r = every-apart (Reads e N P R) (cells h t) (joined (map (cells h) ts)) reads in
+      let reads-first = every-left (Reads e N P R) (cells h t) (joined (map (cells h) ts)) reads in
+      let reads-rest = every-right (Reads e N P R) (cells h t) (joined (map (cells h) ts)) reads in
       let all = row-first h t ts in
       let parts′ : Parts R (slots h t ++ rowSlots h ts) = rw (← all) parts in
       let clear′ : Clear seen (slots h t ++ rowSlots h ts) = rw (← all) clear in
       let mine = each-left (λ s. state R s ≡ 1) (slots h t) (rowSlots h ts) parts′ in
-      let own = slots-own h t in
+      let own : slots h t ≡ slotOf h t ∷ drop 1 (slots h t) = own-slots h t in
       let mine′ : Parts R (slotOf h t ∷ drop 1 (slots h t)) = rw (← own) mine in
       let free : Clear seen (slotOf h t ∷ drop 1 (slots h t)) = rw (← own) (clear-left seen (slots h t) (rowSlots h ts) clear′) in
-      let low : Each (λ s. s < N) (slotOf h t ∷ drop 1 (slots h t)) = rw (← own) (tree-within h t (r .0)) in
+      let low : Each (λ s. s < N) (slotOf h t ∷ drop 1 (slots h t)) = rw (← own) (tree-within h t reads-first) in
       let link = linked-passed N R seen q (slotOf h t) (record {
         within = each-first (λ s. s < N) (slotOf h t) (drop 1 (slots h t)) low;
         part = each-first (λ s. state R s ≡ 1) (slotOf h t) (drop 1 (slots h t)) mine′;
         unseen = clear-first seen (slotOf h t) (drop 1 (slots h t)) free;
       }) in
-      let one = each (Child q) (both edge (isEmpty (map (slotOf h) ts))) seen t link (s .0) (r .0)
+      let one = each (Child q) (both edge (isEmpty (map (slotOf h) ts))) seen t link (s .0) reads-first
       (each-rest (λ s. state R s ≡ 1) (slotOf h t) (drop 1 (slots h t)) mine′) (clear-left seen (slots h t) (rowSlots h ts) clear′) in
-      let more = rows-found-so h each q edge (marked seen (slots h t)) ts (s .1) (r .1)
+      let more = rows-found-so h each q edge (marked seen (slots h t)) ts (s .1) reads-rest
       (each-right (λ s. state R s ≡ 1) (slots h t) (rowSlots h ts) parts′) (clear-right seen (slots h t) (rowSlots h ts) clear′) in
       fine-andThen _ _ t (marked seen (slots h t)) one ∙ fine-andThen _ _ ts (marked (marked seen (slots h t)) (rowSlots h ts)) more
       ∙ ap (fine (t ∷ ts)) (sym (marked-append seen (slots h t) (rowSlots h ts)) ∙ ap (marked seen) (sym all))
@@ -156,7 +158,7 @@ module _ (e : Edition) (p : Proper e) (N : ℕ) (P R : List ℕ) (whole : length
   -- a row's visit tells it of all its trees, if each child's does of its own
   rows-read : (h : ℕ) → Tells h → (q : ℕ) (edge : Bool) (cs seen : List ℕ) (ts : List (Tree h)) (seen′ : List ℕ) → length seen ≡ N → Flags seen
       → visitRow e N P R (visit e N P R h) q edge cs seen ≡ fine ts seen′ → RowRead e N P R h seen cs ts seen′
-  unfolding joined Tells
+  unfolding joined Tells below
   rows-read h each q edge [] seen ts seen′ all flags v =
       let n = none-found e N P R h q edge seen v in
       rw (← n .0, ← n .1) (record {
@@ -177,7 +179,7 @@ module _ (e : Edition) (p : Proper e) (N : ℕ) (P R : List ℕ) (whole : length
       let next = flags-after seen (slots h t) (f .mid) all low (one .clear) (one .flags) in
       let more = rows-read h each q edge cs (f .mid) (f .rest) seen′ (next .0) (next .1) (f .others) in
       let low′ : Each (λ s. s < length seen) (slots h t) = λ s h. rw all (low s h) in
-      let mine : Parts R (slots h t) = rw (slots-own h t)
+      let mine : Parts R (slots h t) = rw (own-slots h t)
       (each-more (λ s. state R s ≡ 1) (slotOf h t) (drop 1 (slots h t)) (rw at (link .part)) (one .parts)) in
       rw (← f .trees) (record {
         own = ap₂ _∷_ at (more .own);

@@ -1,5 +1,5 @@
 -- What a slot becomes that is none of the blob, a law for each way out: it stays, or what was drawn is what the plan says of it.
-use mathlib.Core.Path.{_≡_, refl, _∙_, sym}
+use mathlib.Core.Path.{_≡_, _∙_, sym}
 use mathlib.Core.Bool.{Bool, true, false, not}
 use mathlib.Core.List.{List}
 use Prim.Native.Nat.{ℕ, _-_, _≤_, _<_}
@@ -10,7 +10,7 @@ use Rattle.meaning.specs.Edition.{Proper}
 use Rattle.meaning.specs.Lists.{pick, both}
 use Rattle.meaning.specs.Bytes.{state, recorded, lastVersion, usableSlot}
 use Rattle.laws.proofs.Codec.{rowOf}
-use Rattle.laws.proofs.Inversions.{both-true}
+use Rattle.laws.proofs.Inversions.{both-true, both-false}
 use Rattle.laws_resize.specs.growth.Forms.{grownNew}
 use Rattle.plan_slot.specs.declared.payload.Drawn.{Drawn}
 use Rattle.plan_slot.specs.payload.{Draws}
@@ -23,11 +23,6 @@ use Rattle.plan_longer.specs.taken.{newEnd, freePlan}
 
 -- slot i, which is none of the blob
 module _ (e : Edition) (g : Growth) (t : Tower) (R free kept : List ℕ) (below i : ℕ) where
-  both-false : (a : Bool) → both a false ≡ false
-  unfolding both
-  both-false true = refl
-  both-false false = refl
-
   -- it is not taken
   pub enough-planned : t .taken ≤ below → (x : List ℕ) → turned e R i Stays x ≡ freePlan e g t R free kept below i
   unfolding freePlan turned pick

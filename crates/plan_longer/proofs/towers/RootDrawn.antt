@@ -5,16 +5,13 @@ use Prim.Native.Nat.{ℕ, zero, suc, _-_, _^_, _≤_}
 use native.Mathlib.Omega.{arith}
 use lib.ListN.{length}
 use Rattle.meaning.specs.declared.Edition.{Edition}
-use Rattle.meaning.specs.Edition.{Proper}
 use Rattle.meaning.specs.Bytes.{Cell}
 use Rattle.meaning.specs.Tree.{leavesOf}
 use Rattle.meaning.specs.Shape.{total}
 use Rattle.laws.proofs.Codec.{rowOf}
-use Rattle.laws_resize.specs.growth.Slots.{rise}
-use Rattle.laws_resize.specs.growth.Forms.{bulk, above, newLeaves, newBytes, grownRow, topCell, grownRoot}
+use Rattle.laws_resize.specs.growth.Forms.{bulk, above, newLeaves, newBytes, grownRow, topCell}
 use Rattle.laws_resize.specs.rising.{topAt}
 use Rattle.laws_resize.proofs.rising.Tops.{top-own, top-next}
-use Rattle.laws_resize.proofs.rising.Rises.{root-top}
 use Rattle.plan_slot.specs.declared.payload.Drawn.{Drawn}
 use Rattle.plan_slot.specs.payload.{Draws}
 use Rattle.plan_longer.specs.declared.fresh.Growth.{Growth}
@@ -66,11 +63,3 @@ root-above e g t free row level w b d x grows other high wide whole draws =
 -- the blocks of a blob that gets longer are those of its leaves
 pub blocks-is : (e : Edition) (g : Growth) (t : Tower) (towers : Towers e g t) → t .blocks ≡ total (e .fan) (length (leavesOf (towers .blob)))
 blocks-is e g t towers = towers .blocks ∙ ap (total (e .fan)) (towers .leaves)
-
--- in the end its root holds what it holds at the new height
-pub root-ends : (e : Edition) (g : Growth) (t : Tower) (free row : List ℕ) → Proper e → (towers : Towers e g t)
-    → grownRoot e (g .length) (g .leaves) free (t .top - t .height) (t .height) row ≡ rootAt e g t free row (t .top)
-unfolding rise
-root-ends e g t free row proper towers =
-    rw (blocks-is e g t towers, towers .leaves, towers .top, towers .height)
-    (root-top e proper (towers .blob) (towers .shaped) (g .length) (towers .long) free row)

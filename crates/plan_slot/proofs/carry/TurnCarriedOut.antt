@@ -1,29 +1,17 @@
 -- A turn carried out, case by case: what is stored of a slot is what the turn says, nothing or one change.
-use mathlib.Core.Path.{_≡_, refl, ap, _∙_}
-use mathlib.Core.List.{List, [], _∷_}
-use mathlib.Core.Logic.{_⊎_, inl, inr}
+use mathlib.Core.Path.{_≡_, ap, _∙_}
+use mathlib.Core.List.{List}
 use Prim.Native.Nat.{ℕ, _+_, _-_, _^_, _<_}
 use native.Mathlib.Omega.{arith}
 use mir.Syntax.{w64}
 use mir.Val.{Fits}
-use lib.ListN.{length, replicate, length-replicate}
+use lib.ListN.{replicate}
 use Rattle.meaning.specs.Bytes.{blockBytes, recordAt, recordOf, stateOf, recordedOf, state, recorded, lastVersion}
 use Rattle.meaning.specs.Change.{put, puts, freed}
 use Rattle.meaning.specs.declared.Edition.{Edition}
-use Rattle.laws.proofs.Codec.{record-length}
-use Rattle.plan_slot.proofs.change.SlotLoop.{built-length}
 use Rattle.plan_slot.specs.declared.turn.Turn.{Turn}
 use Rattle.plan_slot.specs.declared.turn.Turn.the-variants.{Stays, Goes, Takes, Renews}
 use Rattle.plan_slot.specs.turn.{stored, turned, Rises}
-
--- nothing, or one change of slot s
-pub turned-one : (e : Edition) (R : List ℕ) (s : ℕ) (t : Turn) (x : List ℕ) → (turned e R s t x ≡ [])
-    ⊎ ((b : List ℕ) × (line : List ℕ) × (turned e R s t x ≡ record { slot = s; block = b; line = line } ∷ []) × (length b ≡ e .size) × (length line ≡ 12))
-unfolding turned stored freed
-turned-one e R s Stays x = inl refl
-turned-one e R s Goes x = inr (_, _, refl, length-replicate (e .size) 0, record-length 0 (recorded R s))
-turned-one e R s (Takes h c) x = inr (_, _, refl, built-length e h c s _ x, record-length 1 (recorded R s + 1))
-turned-one e R s (Renews h c) x = inr (_, _, refl, built-length e h c s _ x, record-length (state R s) (recorded R s + 1))
 
 -- slot s, whose record is line
 module _ (R : List ℕ) (s : ℕ) (line : List ℕ) (el : line ≡ recordAt R s) where

@@ -8,26 +8,13 @@ use native.Mathlib.Omega.{arith}
 use lib.ListN.{length, take, drop, replicate}
 use lib.Seq.{drop-drop}
 use Rattle.meaning.specs.Lists.{part, joined, range}
-use Rattle.meaning.specs.Bytes.{block, blockBytes, recordAt, recordWith, recordOf}
+use Rattle.meaning.specs.Bytes.{block, recordAt, recordWith, recordOf}
 use Rattle.meaning.specs.Change.{Change, put, puts, changed, changes}
 use Rattle.meaning.specs.Tree.{Held}
 use Rattle.meaning.specs.declared.Edition.{Edition}
 use Rattle.laws.proofs.Parts.{pasted-length, drop-pasted}
-use Rattle.laws.proofs.Codec.{padded-length}
 use Rattle.check_blob.proofs.visit.VisitAsDefined.{slot-fits}
-use Rattle.plan_slot.specs.change.Places.{Places}
 use Rattle.plan_slot.specs.change.Turns.{over, Turning}
-
--- a built block is as long as a block
-pub built-length : (e : Edition) (height count slot version : ℕ) (payload : List ℕ) → length (blockBytes e height count slot version payload) ≡ e .size
-unfolding blockBytes
-built-length e height count slot version payload = padded-length (e .size) _
-
--- places stay after a store
-pub places-kept : (e : Edition) (P R scratch P′ R′ scratch′ : List ℕ) (s : ℕ) → Places e P R scratch s → length P′ ≡ length P → length R′ ≡ length R
-    → length scratch′ ≡ length scratch → Places e P′ R′ scratch′ s
-places-kept e P R scratch P′ R′ scratch′ s p lp lr ls =
-    record { block = omega (arith, p .block); line = omega (arith, p .line); scratch = ls ∙ p .scratch }
 
 -- the changes of the slots from i on
 pub over-none : (plan : ℕ → List Change) (i n : ℕ) → n ≤ i → over plan i (n - i) ≡ []

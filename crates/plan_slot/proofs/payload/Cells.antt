@@ -12,7 +12,7 @@ use Rattle.meaning.specs.Edition.{Proper}
 use Rattle.meaning.specs.Bytes.{Cell, itemBytes, header, blockBytes, encoded, countOf, dataOf, childrenOf}
 use Rattle.meaning.specs.Walk.{used}
 use Rattle.laws.proofs.Numbers.{OfBytes}
-use Rattle.laws.proofs.Codec.{fours-length, padded-length, header-length, drop-small, fours-written, rowOf, row-count}
+use Rattle.laws.proofs.Codec.{fours-length, header-length, drop-small, fours-written, rowOf, row-count}
 use Rattle.plan_slot.specs.declared.payload.Drawn.{Drawn}
 use Rattle.plan_slot.specs.payload.{Draws}
 use Rattle.plan_slot.proofs.payload.Rows.{padded-twice}
@@ -40,10 +40,6 @@ draws-block e p c d x is s v =
     ap (λ (l : List ℕ). padded (e .size) (header e (d .height) (d .count) s v ++ l)) (is .payload)
     ∙ padded-twice (e .size) (e .leaf) (header e (d .height) (d .count) s v) (itemBytes (c .height) (c .items)) (is .fits) (omega (arith, p .fits))
     ∙ (λ i. padded (e .size) (header e (is .height i) (is .count i) s v ++ itemBytes (c .height) (c .items)))
-
--- its payload is as long as a leaf's
-pub draws-length : (e : Edition) (c : Cell) (d : Drawn) (x : List ℕ) → Draws e c d x → length x ≡ e .leaf
-draws-length e c d x is = ap length (is .payload) ∙ padded-length (e .leaf) (itemBytes (c .height) (c .items))
 
 -- the first n of k numbers of four bytes each
 take-fours : (n k : ℕ) (l : List ℕ) → take n (fours k l) ≡ fours (min k n) l

@@ -1,8 +1,7 @@
 -- What is known of the blob says all that write needs: its leaves' blocks pass checks 2 and 3, and the plan of each slot is the definition's change.
 use mathlib.Core.Path.{_≡_, refl, ap, _∙_, sym, subst}
-use mathlib.Core.Logic.{_⊎_, inl, inr}
 use mathlib.Core.Bool.{true}
-use mathlib.Core.List.{List, [], _∷_, List·Memᴰ, List·Memᴰ·not-nil, List·Memᴰ·cases-cons}
+use mathlib.Core.List.{List, [], _∷_}
 use Prim.Native.Nat.{ℕ, suc, _+_, _-_, _*_, _≤_, _<_}
 use native.Mathlib.Omega.{arith}
 use borrow.Author.Tests.{eqb-true, eqb-false}
@@ -25,7 +24,8 @@ use Rattle.laws_resize.specs.growth.Cuts.{rewritten}
 use Rattle.laws_resize.specs.growth.Slots.{writtenHeld}
 use Rattle.laws_resize.proofs.growth.Resized.{write-changes}
 use Rattle.laws_resize.proofs.growth.Changes.{held-at, rewrite-old, rewrite-inner, rewrite-other}
-use Rattle.laws_sound.proofs.sound.Cells.{Every, Reads, reads-sound}
+use Rattle.laws.proofs.Every.{Every, every-mem}
+use Rattle.laws_sound.proofs.sound.Cells.{Reads, reads-sound}
 use Rattle.laws_sound.proofs.sound.Blobs.{Lies}
 use Rattle.laws_sound.proofs.sound.Pools.{pool-found}
 use Rattle.check_blob.proofs.visit.VisitAsDefined.{slot-fits}
@@ -39,15 +39,6 @@ use Rattle.plan_write.proofs.stretch.Stretches.{touched-part}
 use Rattle.plan_write.specs.rewriting.{Unworn}
 use Rattle.plan_write.proofs.rewriting.Own.{leaf-part, leaf-reach}
 use Rattle.plan_write.proofs.rewriting.Plans.{planned-leaf, planned-other}
-
--- a claim of each, of one that is there
-every-there : {A : Type 0} (Q : A → Type 0) (l : List A) → Every Q l → (x : A) → List·Memᴰ x l → Q x
-every-there Q [] h x m = absurd (List·Memᴰ·not-nil m)
-every-there Q (y ∷ l) h x m = by (every-there Q l (h .1) x) (List·Memᴰ·cases-cons m)
-  where
-    by : (List·Memᴰ x l → Q x) → (x ≡ y) ⊎ List·Memᴰ x l → Q x
-    by later (inl q) = subst Q (sym q) (h .0)
-    by later (inr i) = later i
 
 -- a claim of each cell, of the one that a slot holds
 every-held : (Q : ℕ × Cell → Type 0) (cs : List (ℕ × Cell)) → Every Q cs → (s : ℕ) (c : Cell) → held cs s ≡ just c → Q (s, c)
@@ -68,7 +59,7 @@ module _ (e : Edition) (p : Proper e) (n : ℕ) (P R : List ℕ) (r len k : ℕ)
   b = blobAt e P r
 
   lies : Lies e n P R b
-  lies = every-there (Lies e n P R) (g .blobs) (pool-found e p n P R whole (g .passed) .lie) b (g .among)
+  lies = every-mem (Lies e n P R) (pool-found e p n P R whole (g .passed) .lie) (g .among)
 
   -- a slot with 1 in the row of heights is a leaf
   module _ (s : ℕ) (leaf : getD hs s 0 ≡ 1) where
