@@ -1,13 +1,12 @@
 -- The audit's answer: an equation for each way out, and the count of live slots, one after the other.
 use mathlib.Core.Path.{_≡_, ap, _∙_, sym}
-use mathlib.Core.Bool.{Bool, true, false, not}
+use mathlib.Core.Bool.{Bool, not}
 use mathlib.Core.List.{List, [], _∷_}
-use Prim.Native.Nat.{ℕ, suc, _+_, _-_, _≤_, _<_}
-use native.Mathlib.Numerals.{add-one}
+use Prim.Native.Nat.{ℕ, _+_, _-_, _≤_, _<_}
 use native.Mathlib.Omega.{arith}
 use borrow.Author.Tests.{eq-eqb, ne-eqb}
 use lib.Dec.{eqb}
-use lib.ListN.{length}
+use lib.ListN.{length, length-append}
 use Rattle.meaning.specs.Lists.{pick, range, filter}
 use Rattle.meaning.specs.Bytes.{recordAt, stateOf, state}
 use Rattle.meaning.specs.Walk.{poolCheck}
@@ -17,6 +16,8 @@ use Rattle.meaning.specs.declared.Edition.{Edition}
 use Rattle.meaning.specs.declared.Refusal.{Refusal}
 use Rattle.meaning.specs.declared.Audit.{Audit}
 use Rattle.meaning.specs.declared.Audit.the-variants as auditCase
+use Rattle.laws.proofs.Ranges.{filter-append, left-all, left-step, left-none}
+use Rattle.laws.proofs.Codec.{state-is}
 use Rattle.check_gate.specs.declared.Opened.{Opened}
 use Rattle.check_gate.specs.declared.Opened.the-variants.{Slots, Refused}
 use Rattle.check_gate.specs.Gate.{gate}
@@ -52,39 +53,31 @@ module _ (e : Edition) (n : ℕ) (P R : List ℕ) (named : ℕ) (o : List ℕ) (
 
 -- live slots, one after the other
 module _ (R : List ℕ) (i : ℕ) (rb : List ℕ) (er : rb ≡ recordAt R i) (st : ℕ) (es : st ≡ stateOf rb) where
-  state-is : state R i ≡ st
-  unfolding state
-  state-is = sym (es ∙ ap stateOf er)
-
   pub live-none : st ≡ 0 → 0 ≡ liveFrom R i 1
   unfolding liveFrom range filter pick
-  live-none z = simp (state-is, eq-eqb st 0 z)
+  live-none z = simp (← state-is R i rb er st es, eq-eqb st 0 z)
 
   pub live-one : (st ≡ 0 → ⊥) → 1 ≡ liveFrom R i 1
   unfolding liveFrom range filter pick
-  live-one n = simp (state-is, ne-eqb st 0 n)
-
--- the first of some slots, then the others
-first-and-rest : (t : Bool) (x : ℕ) (l : List ℕ) → length (pick t (x ∷ l) l) ≡ length (pick t (x ∷ []) []) + length l
-unfolding pick
-first-and-rest true x l = omega arith
-first-and-rest false x l = omega arith
-
-live-rest : (R : List ℕ) (i k : ℕ) → liveFrom R i (suc k) ≡ liveFrom R i 1 + liveFrom R (suc i) k
-unfolding liveFrom range filter
-live-rest R i k = first-and-rest (not (eqb (state R i) 0)) i (filter (λ s. not (eqb (state R s) 0)) (range (suc i) k))
+  live-one n = simp (← state-is R i rb er st es, ne-eqb st 0 n)
 
 -- the count so far and that of the slots left are the whole
 pub live-start : (R : List ℕ) (n : ℕ) → 0 + liveFrom R 0 (n - 0) ≡ liveFrom R 0 n
-live-start R n = let z : n - 0 ≡ n = omega arith in ap (λ (k : ℕ). 0 + liveFrom R 0 k) z ∙ omega arith
+unfolding liveFrom
+live-start R n = rw (left-all n) (omega arith)
 
 module _ (R : List ℕ) (n i live : ℕ) (inv : live + liveFrom R i (n - i) ≡ liveFrom R 0 n) where
   pub live-more : i < n → (m : ℕ) → m ≡ liveFrom R i 1 → live + m + liveFrom R (i + 1) (n - (i + 1)) ≡ liveFrom R 0 n
-  live-more l m em =
-      let z : n - i ≡ suc (n - suc i) = omega arith in
-      let a : liveFrom R i (n - i) ≡ liveFrom R i 1 + liveFrom R (i + 1) (n - (i + 1)) = rw (z, add-one) (live-rest R i (n - suc i)) in
-      omega (arith, a)
+  live-more l m em = omega (arith, first-and-rest)
+    where
+      first-and-rest : liveFrom R i (n - i) ≡ liveFrom R i 1 + liveFrom R (i + 1) (n - (i + 1))
+      first-and-rest =
+          let isLive : ℕ → Bool = λ s. not (eqb (state R s) 0) in
+          let rest = range (i + 1) (n - (i + 1)) in
+          unfold liveFrom range in
+          ap (λ (l : List ℕ). length (filter isLive l)) (left-step i n l) ∙ ap length (filter-append isLive (i ∷ []) rest)
+          ∙ length-append (filter isLive (i ∷ [])) (filter isLive rest)
 
   pub live-end : n ≤ i → live ≡ liveFrom R 0 n
-  unfolding liveFrom range filter
-  live-end l = let z : n - i ≡ 0 = omega arith in let a = rw z at inv in omega (arith, a)
+  unfolding liveFrom filter
+  live-end l = let a = rw (left-none i n l) at inv in omega (arith, a)

@@ -31,7 +31,7 @@ use Rattle.plan_tree.specs.declared.cuts.Cut.{Cut}
 use Rattle.plan_shorter.specs.Plans as cut
 use Rattle.plan_write.specs.declared.stretch.Stretch.{Stretch}
 use Rattle.plan_write.specs.stretch.{planOf, putBy, writePlan, Place, Counted}
-use Rattle.plan_write.proofs.rewriting.Facts.{counted-known}
+use Rattle.plan_write.proofs.rewriting.PlannedAsDefined.{counted-known}
 use Rattle.call_delete.specs.free.{clearPlan}
 use Rattle.call_count.specs.Plannable.{Plannable}
 

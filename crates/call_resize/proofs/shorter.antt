@@ -1,2 +1,2 @@
-pub mod Left
-pub mod Start
+pub mod LeftEdgeKnown
+pub mod ReadyToCut

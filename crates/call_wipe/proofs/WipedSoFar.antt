@@ -60,10 +60,6 @@ module _ (e : Edition) (P R : List ℕ) (s : Bool) (es : s ≡ sized e P R) wher
   wipe-lengths t q eq =
       record { answer = rw eq (simp (← es, not-true s t)); pool = simp (← es, not-true s t); records = simp (← es, not-true s t) }
 
-  pub wipe-records : not s ≡ false → length R ≡ 12 * (length P / e .size)
-  unfolding slotsIn
-  wipe-records t = sized-whole e P R (sym es ∙ not-false s t) .records
-
   pub wipe-done : not s ≡ false → (P′ R′ : List ℕ) → P′ ≡ replicate (length P) 0 → R′ ≡ freeRecords (length P / e .size) → Wipes e P R finishedCase.Done P′ R′
   unfolding wipeAnswer afterWipe wiped pick slotsIn
   wipe-done t P′ R′ ep er =

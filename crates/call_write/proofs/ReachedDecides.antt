@@ -29,7 +29,7 @@ use Rattle.check_survey.specs.Reached.{front, Behind, Reaches}
 use Rattle.check_survey.proofs.BehindTheSurvey.{refused-so, reached-blob, reached-opened}
 use Rattle.check_survey.specs.refusal.{writeBarred}
 use Rattle.call_write.specs.put.{writeNoted}
-use Rattle.plan_write.proofs.rewriting.Facts.{leaves-known, all-same}
+use Rattle.plan_write.proofs.rewriting.PlannedAsDefined.{leaves-known, all-same}
 
 -- a known blob of so many bytes: the call is what is noted of it
 module _ (e : Edition) (p : Proper e) (n : ℕ) (P R : List ℕ) (r len k : ℕ) (row hs fs : List ℕ) (g : Known e n P R r len k row hs fs)

@@ -2,9 +2,8 @@
 use mathlib.Core.Path.{_≡_, refl, ap, _∙_, sym}
 use mathlib.Core.Bool.{Bool, true, false, not}
 use mathlib.Core.List.{List, [], _∷_}
-use Prim.Native.Nat.{ℕ, suc, _+_, _-_, _*_, _/_, _%_, _≤_, _<_}
+use Prim.Native.Nat.{ℕ, _+_, _-_, _*_, _/_, _%_, _≤_, _<_}
 use native.Mathlib.Nat.{div-add-mod'}
-use native.Mathlib.Numerals.{add-one}
 use native.Mathlib.Omega.{arith}
 use borrow.Author.Tests.{eq-eqb, ne-eqb, le-leb, lt-leb, lt-ltb, le-ltb, leb-true, eqb-true, not-true, not-false}
 use lib.Dec.{eqb, ltb}
@@ -16,6 +15,7 @@ use Rattle.meaning.specs.Calls.{Outcome, refused, done, refuseIf, slotsIn, size
 use Rattle.meaning.specs.declared.Edition.{Edition}
 use Rattle.meaning.specs.declared.Refusal.{Refusal}
 use Rattle.laws.proofs.Inversions.{both-true}
+use Rattle.laws.proofs.Ranges.{left-all, left-step, left-none}
 use Rattle.check_gate.specs.declared.Opened.{Opened}
 use Rattle.check_gate.specs.declared.Opened.the-variants.{Slots, Refused}
 use Rattle.check_gate.specs.Gate.{gateOf, recordsGate, gate, through, Whole}
@@ -59,17 +59,18 @@ sized-whole e P R t =
 
 -- refusal 2: the loop over the slots
 pub records-start : (R : List ℕ) (n : ℕ) → recordsGate R 0 n n ≡ recordsGate R 0 (n - 0) n
-records-start R n = let z : n - 0 ≡ n = omega arith in rw z
+unfolding recordsGate
+records-start R n = rw (left-all n)
 
 module _ (R : List ℕ) (n i : ℕ) (inv : recordsGate R 0 n n ≡ recordsGate R i (n - i) n) where
   pub records-end : n ≤ i → Slots n ≡ recordsGate R 0 n n
-  unfolding recordsGate gateOf refuseBadRecord range
-  records-end l = let z : n - i ≡ 0 = omega arith in rw (inv, z)
+  unfolding recordsGate gateOf refuseBadRecord
+  records-end l = rw (inv, left-none i n l)
 
   module _ (l : i < n) where
-    step : recordsGate R 0 n n ≡ gateOf (refuseBadRecord R (i ∷ range (suc i) (n - suc i)) (done n []))
-    unfolding recordsGate range
-    step = let z : n - i ≡ suc (n - suc i) = omega arith in rw (inv, z)
+    step : recordsGate R 0 n n ≡ gateOf (refuseBadRecord R (i ∷ range (i + 1) (n - (i + 1))) (done n []))
+    unfolding recordsGate
+    step = rw (inv, left-step i n l)
 
     module _ (r : List ℕ) (er : r ≡ recordAt R i) (s : Bool) (es : s ≡ soundRecord r) where
       sound-is : soundRecord (recordAt R i) ≡ s
@@ -81,7 +82,7 @@ module _ (R : List ℕ) (n i : ℕ) (inv : recordsGate R 0 n n ≡ recordsGate R
 
       pub records-good : not s ≡ false → recordsGate R 0 n n ≡ recordsGate R (i + 1) (n - (i + 1)) n
       unfolding recordsGate refuseBadRecord pick
-      records-good t = rw (step, add-one) (simp (sound-is, not-false s t))
+      records-good t = rw step (simp (sound-is, not-false s t))
 
 -- the gate
 module _ (e : Edition) (P R : List ℕ) (s : Bool) (es : s ≡ sized e P R) where

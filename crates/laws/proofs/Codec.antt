@@ -347,6 +347,16 @@ record-back r long small sound =
     sym (take-append-drop 2 r) ∙ ap (λ (l : List ℕ). take 2 r ++ l) (drop-two r (omega arith))
     ∙ (λ i. f .mark i ++ (getD r 2 0 ∷ f .fourth i ∷ w i))
 
+-- a slot's state and version, from its record
+module _ (R : List ℕ) (s : ℕ) (line : List ℕ) (el : line ≡ recordAt R s) where
+  pub state-is : (st : ℕ) → st ≡ stateOf line → st ≡ state R s
+  unfolding state
+  state-is st es = es ∙ ap stateOf el
+
+  pub version-is : (v : ℕ) → v ≡ recordedOf line → v ≡ recorded R s
+  unfolding recorded
+  version-is v ev = ev ∙ ap recordedOf el
+
 -- the state of a written record
 pub state-of : (R : List ℕ) (x st v : ℕ) → recordAt R x ≡ recordOf st v → state R x ≡ st
 unfolding state

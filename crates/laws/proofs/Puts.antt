@@ -3,6 +3,7 @@
 -- puts there, or what it held.
 use mathlib.Core.Path.{_≡_, refl, sym, ap, _∙_}
 use mathlib.Core.Bool.{Bool, true, false}
+use mathlib.Core.Logic.{_⊎_, inl, inr}
 use mathlib.Core.List.{List, [], _∷_, _++_}
 use Prim.Native.Nat.{ℕ, zero, suc, _+_, _*_, _≤_, _<_}
 use native.Mathlib.Omega.{arith}
@@ -12,7 +13,7 @@ use lib.Dec.{eqb, ltb}
 use lib.ListN.{length, length-replicate}
 use Rattle.meaning.specs.declared.Edition.{Edition}
 use Rattle.meaning.specs.Lists.{pick, part, range}
-use Rattle.meaning.specs.Bytes.{sameCell, block, recordAt, state, recorded}
+use Rattle.meaning.specs.Bytes.{Cell, block, recordAt, state}
 use Rattle.meaning.specs.Tree.{Held, nothing, just}
 use Rattle.meaning.specs.Change.{Change, Store, put, puts, changedBy, freed, renewed, changed, changes}
 use Rattle.laws.proofs.Parts.{pasted-length, part-pasted, part-pasted-before, part-pasted-after}
@@ -56,9 +57,23 @@ puts-append w f [] b l = refl
 puts-append w f (c ∷ a) b l = puts-append w f a b (put w (c .slot) (f c) l)
 
 -- no change, or one: of slot s, with a whole block and a whole record
-pub data Single (e : Edition) (s : ℕ) : List Change → Type 0 where
-  none : Single e s []
-  one : (c : Change) → c .slot ≡ s → length (c .block) ≡ e .size → length (c .line) ≡ 12 → Single e s (c ∷ [])
+abbrev pub Single : Edition → ℕ → List Change → Type 0
+Single e s cs =
+    (cs ≡ []) ⊎ ((b : List ℕ) × (line : List ℕ) × (cs ≡ record { slot = s; block = b; line = line } ∷ []) × (length b ≡ e .size) × (length line ≡ 12))
+
+-- so of each choice that changes are made of
+pub pick-single : (e : Edition) (s : ℕ) (t : Bool) (a b : List Change) → Single e s a → Single e s b → Single e s (pick t a b)
+unfolding pick
+pick-single e s true a b x y = x
+pick-single e s false a b x y = y
+
+pub freed-single : (e : Edition) (R : List ℕ) (s : ℕ) → Single e s (freed e R s ∷ [])
+unfolding freed
+freed-single e R s = inr (_, _, refl, length-replicate (e .size) 0, record-length 0 _)
+
+pub renewed-single : (e : Edition) (R : List ℕ) (st s : ℕ) (c : Cell) → Single e s (renewed e R st s c ∷ [])
+unfolding renewed
+renewed-single e R st s c = inr (_, _, refl, encoded-length e c s _, record-length st _)
 
 -- what the first change makes of what was
 unfoldable pub made : (Change → List ℕ) → List Change → List ℕ → List ℕ
@@ -67,16 +82,11 @@ made f (c ∷ cs) was = f c
 
 -- a slot's changes are none or one
 pub changed-single : (e : Edition) (R : List ℕ) (taken s : ℕ) (old new : Held) → Single e s (changed e R taken s old new)
-unfolding changed renewed freed pick
-changed-single e R taken s nothing nothing = none
-changed-single e R taken s nothing (just c) = one _ refl (encoded-length e c s (recorded R s + 1)) (record-length taken (recorded R s + 1))
-changed-single e R taken s (just b) nothing = one _ refl (length-replicate {A = ℕ} (e .size) 0) (record-length 0 (recorded R s))
-changed-single e R taken s (just b) (just c) =
-    picked (sameCell b c) (one _ refl (encoded-length e c s (recorded R s + 1)) (record-length (state R s) (recorded R s + 1)))
-  where
-    picked : {e : Edition} {s : ℕ} {cs : List Change} (t : Bool) → Single e s cs → Single e s (pick t [] cs)
-    picked true h = none
-    picked false h = h
+unfolding changed
+changed-single e R taken s nothing nothing = inl refl
+changed-single e R taken s nothing (just c) = renewed-single e R taken s c
+changed-single e R taken s (just b) nothing = freed-single e R s
+changed-single e R taken s (just b) (just c) = pick-single e s _ _ _ (inl refl) (renewed-single e R (state R s) s c)
 
 -- a list in parts of w, and a field of a change that is w long
 module _ (e : Edition) (w N : ℕ) (f : Change → List ℕ)
@@ -88,17 +98,17 @@ module _ (e : Edition) (w N : ℕ) (f : Change → List ℕ)
     there : (j : ℕ) → (j ≡ s → ⊥) → part (w * j) w (puts w f cs l) ≡ part (w * j) w l
 
   -- so it is
-  one-step : (s : ℕ) {cs : List Change} (l : List ℕ) → Single e s cs → s < N → length l ≡ w * N → OneStep s cs l
+  one-step : (s : ℕ) (cs : List Change) (l : List ℕ) → Single e s cs → s < N → length l ≡ w * N → OneStep s cs l
   unfolding puts made
-  one-step s l none low long = record { long = refl; here = refl; there = λ j h. refl }
-  one-step s l (one c at b r) low long =
-      let k : c .slot < N = omega arith in
-      let u : length (f c) ≡ w = wide c b r in
-      record {
-        long = put-length w N (c .slot) (f c) l u k long;
-        here = rw (← at) (put-same w N (c .slot) (f c) l u k long);
-        there = λ j h. put-other w N (c .slot) (f c) l u k long j (λ q. h (q ∙ at));
-      }
+  one-step s cs l (inl q) low long = rw q (record { long = refl; here = refl; there = λ j h. refl })
+  one-step s cs l (inr (b, line, q, whole, lined)) low long =
+      let c : Change = record { slot = s; block = b; line = line } in
+      let u : length (f c) ≡ w = wide c whole lined in
+      rw q (record {
+        long = put-length w N s (f c) l u low long;
+        here = put-same w N s (f c) l u low long;
+        there = put-other w N s (f c) l u low long;
+      })
 
   module _ (R : List ℕ) (taken : ℕ) (old new : ℕ → Held) where
     -- after the changes of a range of slots
@@ -114,7 +124,7 @@ module _ (e : Edition) (w N : ℕ) (f : Change → List ℕ)
     ranged from zero l low long = record { long = refl; below = λ j h. refl; within = λ j h k. absurd (omega arith) }
     ranged from (suc n) l low long =
         let cs : List Change = changed e R taken from (old from) (new from) in
-        let s : OneStep from cs l = one-step from l (changed-single e R taken from (old from) (new from)) (omega arith) long in
+        let s : OneStep from cs l = one-step from cs l (changed-single e R taken from (old from) (new from)) (omega arith) long in
         let r : Ranged (suc from) n (puts w f cs l) = ranged (suc from) n (puts w f cs l) (omega arith) (s .long ∙ long) in
         let app = puts-append w f cs (changes e R taken old new (range (suc from) n)) l in
         record {

@@ -1,14 +1,18 @@
--- Ranges of numbers, and what a test keeps of a list.
+-- Ranges of numbers, what a loop over one still has before it, and what a test keeps of a list.
 use mathlib.Core.Path.{_≡_, refl, ap, _∙_, sym}
 use mathlib.Core.Bool.{Bool, true}
 use mathlib.Core.List.{List, [], _∷_, _++_, List·Memᴰ, List·Memᴰ·head, List·Memᴰ·tail}
-use Prim.Native.Nat.{ℕ, zero, suc, _+_, _≤_, _<_}
+use Prim.Native.Nat.{ℕ, zero, suc, _+_, _-_, _≤_, _<_}
 use native.Mathlib.Nat.{add-zero, add-suc, zero-add, suc-add}
+use native.Mathlib.Numerals.{add-one}
 use native.Mathlib.Omega.{arith}
 use borrow.Author.Tests.{eqb-true, eqb-false}
 use lib.Dec.{eqb}
 use lib.ListN.{length}
+use Rattle.meaning.specs.declared.Edition.{Edition}
 use Rattle.meaning.specs.Lists.{pick, range, filter}
+use Rattle.meaning.specs.Bytes.{usableSlot}
+use Rattle.meaning.specs.Calls.{usable}
 use Rattle.laws.proofs.Inversions.{by-test}
 
 -- a number below the end of a range is in it
@@ -43,6 +47,20 @@ range-append from (suc k) n = rw (suc-add k n, add-suc from k) (ap (λ l. from �
 
 -- walks from slots of one pool
 
+-- what a loop up to n has before it from i on: at first all
+pub left-all : (n : ℕ) → range 0 (n - 0) ≡ range 0 n
+left-all n = let z : n - 0 ≡ n = omega arith in rw z
+
+-- then i, and what it has before it from the next on
+pub left-step : (i n : ℕ) → i < n → range i (n - i) ≡ i ∷ range (i + 1) (n - (i + 1))
+unfolding range
+left-step i n h = let z : n - i ≡ suc (n - suc i) = omega arith in rw (z, add-one)
+
+-- and behind the end nothing
+pub left-none : (i n : ℕ) → n ≤ i → range i (n - i) ≡ []
+unfolding range
+left-none i n h = let z : n - i ≡ 0 = omega arith in rw z
+
 -- a test keeps no more numbers of a range than there are
 pub filter-few : (p : ℕ → Bool) (from n : ℕ) → length (filter p (range from n)) ≤ n
 unfolding filter range pick
@@ -50,3 +68,8 @@ filter-few p from zero = omega arith
 filter-few p from (suc n) =
     let rest = filter-few p (suc from) n in
     by-test (p from) (λ t. rw t (omega arith)) (λ t. rw t (omega arith))
+
+-- so no more slots are usable than there are
+pub usable-few : (e : Edition) (n : ℕ) (P R : List ℕ) → length (usable e n P R) ≤ n
+unfolding usable
+usable-few e n P R = filter-few (usableSlot R) 0 n

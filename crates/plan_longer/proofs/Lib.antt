@@ -1,4 +1,4 @@
-pub mod Low
-pub mod Ready
-pub mod Same
-pub mod Plan
+pub mod NoneHigher
+pub mod ReadyToGrow
+pub mod PlannedAsDefined
+pub mod PlanByOwner

@@ -1,2 +1,2 @@
 pub mod PlannedAsDefined
-pub mod Plan
+pub mod PlanByCases

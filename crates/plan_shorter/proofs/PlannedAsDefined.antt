@@ -26,7 +26,7 @@ use Rattle.laws_resize.proofs.growth.Steps.{short-gone, short-replaced, short-o
 use Rattle.laws_resize.proofs.growth.Places.{left-site, root-site}
 use Rattle.laws_resize.proofs.growth.Resized.{resize-changes}
 use Rattle.laws_resize.proofs.rising.Bounds.{shorter-height}
-use Rattle.laws_resize.proofs.rising.Same.{same-cut}
+use Rattle.laws_resize.proofs.rising.SameByCount.{same-cut}
 use Rattle.laws_resize.proofs.rising.Roots.{shorter-is, same-shorter}
 use Rattle.check_survey.specs.sites.Spelt.{blobAt, siteAt}
 use Rattle.check_survey.specs.sites.Known.{Known}

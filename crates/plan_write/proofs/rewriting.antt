@@ -1,3 +1,3 @@
-pub mod Own
-pub mod Plans
-pub mod Facts
+pub mod WrittenAsItIs
+pub mod LeafPlanned
+pub mod PlannedAsDefined

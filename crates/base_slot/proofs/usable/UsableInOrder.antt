@@ -10,38 +10,35 @@ use lib.Dec.{ltb}
 use lib.ListN.{length, getD, take, set, List·getD-eq-default}
 use lib.Seq.{take-suc-set, length-take-le}
 use Rattle.meaning.specs.declared.Edition.{Edition}
-use Rattle.meaning.specs.Lists.{pick, both, range, filter, bytes}
-use Rattle.meaning.specs.Bytes.{recordAt, stateOf, recordedOf, state, recorded, lastVersion, usableSlot}
+use Rattle.meaning.specs.Lists.{pick, both, filter, bytes}
+use Rattle.meaning.specs.Bytes.{recordAt, stateOf, recordedOf, lastVersion, usableSlot}
 use Rattle.meaning.specs.Calls.{usable}
+use Rattle.laws.proofs.Ranges.{left-all, left-step, left-none}
+use Rattle.laws.proofs.Codec.{state-is, version-is}
 use Rattle.base_slot.specs.declared.usable.Free.the-variants.{At, Nowhere}
 use Rattle.base_slot.specs.usable.{usableFrom, lowestOf, Added}
 
 module _ (R : List ℕ) (s : ℕ) (rb : List ℕ) (er : rb ≡ recordAt R s) (st : ℕ) (es : st ≡ stateOf rb) where
-  state-is : state R s ≡ st
-  unfolding state
-  state-is = sym (es ∙ ap stateOf er)
-
   pub usable-live : (st ≡ 0 → ⊥) → false ≡ usableSlot R s
   unfolding usableSlot both
-  usable-live n = simp (state-is, ne-eqb st 0 n)
+  usable-live n = simp (← state-is R s rb er st es, ne-eqb st 0 n)
 
   pub usable-free : st ≡ 0 → (v : ℕ) → v ≡ recordedOf rb → ltb v 0xFFFF_FFFF_FFFF_FFFF ≡ usableSlot R s
-  unfolding usableSlot both lastVersion recorded
-  usable-free z v ev =
-      let w : recordedOf (recordAt R s) ≡ v = sym (ev ∙ ap recordedOf er) in
-      simp (state-is, z, w)
+  unfolding usableSlot both lastVersion
+  usable-free z v ev = simp (← state-is R s rb er st es, z, ← version-is R s rb er v ev)
 
 -- the usable slots from i on, by whether i is one
 from-step : (R : List ℕ) (i n : ℕ) → i < n → usableFrom R i (n - i) ≡ pick (usableSlot R i) (i ∷ usableFrom R (i + 1) (n - (i + 1))) (usableFrom R (i + 1) (n - (i + 1)))
-unfolding usableFrom range filter
-from-step R i n h = let z : n - i ≡ suc (n - suc i) = omega arith in rw (z, add-one)
+unfolding usableFrom filter
+from-step R i n h = rw (left-step i n h)
 
 from-none : (R : List ℕ) (i n : ℕ) → n ≤ i → usableFrom R i (n - i) ≡ []
-unfolding usableFrom range filter
-from-none R i n h = let z : n - i ≡ 0 = omega arith in rw z
+unfolding usableFrom filter
+from-none R i n h = rw (left-none i n h)
 
 from-zero : (R : List ℕ) (n : ℕ) → usableFrom R 0 (n - 0) ≡ usableFrom R 0 n
-from-zero R n = let z : n - 0 ≡ n = omega arith in rw z
+unfolding usableFrom
+from-zero R n = rw (left-all n)
 
 pub lowest-start : (R : List ℕ) (n : ℕ) → usableFrom R 0 n ≡ usableFrom R 0 (n - 0)
 lowest-start R n = sym (from-zero R n)

@@ -22,6 +22,7 @@ use Rattle.meaning.specs.declared.Edition.{Edition}
 use Rattle.meaning.specs.declared.Refusal.{Refusal}
 use Rattle.meaning.specs.declared.Created.the-variants as createdCase
 use Rattle.laws.proofs.Inversions.{by-test, both-true}
+use Rattle.laws.proofs.Codec.{version-is}
 use Rattle.check_gate.specs.Gate.{Whole}
 use Rattle.check_blob.proofs.visit.VisitAsDefined.{slot-fits}
 use Rattle.base_slot.specs.declared.usable.Free.{Free}
@@ -112,15 +113,11 @@ module _ (e : Edition) (p : Proper e) (n : ℕ) (P R : List ℕ) (w : Whole e n 
     create-small = omega (arith, inside, w .few, p .small)
 
     module _ (rb : List ℕ) (er : rb ≡ recordAt R s) (v : ℕ) (ev : v ≡ recordedOf rb) where
-      version-is : v ≡ recorded R s
-      unfolding recorded
-      version-is = ev ∙ ap recordedOf er
-
       pub create-fits : Fits w64 (v + 1)
       unfolding usableSlot lastVersion
       create-fits =
           let b : recorded R s < 2 ^ 64 - 1 = ltb-true (recorded R s) (2 ^ 64 - 1) (both-true (eqb (state R s) 0) _ (is-usable .0) .1) in
-          record { fits = omega (arith, version-is) }
+          record { fits = omega (arith, version-is R s rb er v ev) }
 
       change : become e n P R 2 [] ((s, record { height = 0; items = [] }) ∷ []) ≡ renewed e R 2 s (record { height = 0; items = [] }) ∷ []
       unfolding become changed held pick
@@ -143,6 +140,6 @@ module _ (e : Edition) (p : Proper e) (n : ℕ) (P R : List ℕ) (w : Whole e n 
       create-done P′ R′ none en ep er′ =
           record {
             answer = rw outcome;
-            pool = ep ∙ rw (en, version-is, outcome);
-            records = er′ ∙ rw (version-is, outcome);
+            pool = ep ∙ rw (en, version-is R s rb er v ev, outcome);
+            records = er′ ∙ rw (version-is R s rb er v ev, outcome);
           }

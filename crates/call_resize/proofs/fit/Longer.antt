@@ -12,6 +12,7 @@ use Rattle.meaning.specs.Tree.{Blob}
 use Rattle.meaning.specs.Change.{puts}
 use Rattle.meaning.specs.Calls.{usable}
 use Rattle.laws.proofs.Totals.{total-le, total-ge}
+use Rattle.laws.proofs.Ranges.{usable-few}
 use Rattle.laws_resize.specs.growth.Cuts.{heightOfLength}
 use Rattle.laws_resize.specs.growth.Slots.{taken}
 use Rattle.laws_resize.proofs.rising.Bounds.{longer-leaves}
@@ -24,9 +25,8 @@ use Rattle.plan_longer.specs.fresh.{Grows}
 use Rattle.plan_longer.specs.declared.towers.Tower.{Tower}
 use Rattle.plan_longer.specs.towers.{Towers, RootBlock}
 use Rattle.plan_longer.specs.Plans.{Numbers, AllHere, growPlans}
-use Rattle.plan_longer.proofs.Ready.{root-height, known-all-here, known-towers, known-root, known-grows}
-use Rattle.plan_longer.proofs.Low.{usable-few}
-use Rattle.plan_longer.proofs.Same.{grow-changes}
+use Rattle.plan_longer.proofs.ReadyToGrow.{root-height, known-all-here, known-towers, known-root, known-grows}
+use Rattle.plan_longer.proofs.PlannedAsDefined.{grow-changes}
 use Rattle.check_survey.specs.sites.Spelt.{blobAt}
 use Rattle.call_resize.specs.fit.Measures.{Measures}
 use Rattle.call_resize.specs.fit.Found.{resizedTo, Roomy, Longer}

@@ -1,5 +1,6 @@
 -- The lengths decide; then everything is wiped.
-use Rattle.call_wipe.proofs.WipedSoFar.{wipe-lengths, wipe-records, wipe-done}
+use Rattle.check_gate.proofs.BehindTheGate.{gate-length}
+use Rattle.call_wipe.proofs.WipedSoFar.{wipe-lengths, wipe-done}
 use borrow.Author.Needs.{needs}
 use Rattle.call_wipe.proofs.wipe_call.Statement.{statement}
 use Rattle.call_wipe.proofs.wipe_call.Tie as tie
@@ -26,7 +27,7 @@ clear-requires : tie.Need-clear-requires
 clear-requires c κs = search needs
 
 free-all-requires : tie.Need-free-all-requires
-free-all-requires c κs = search wipe-records
+free-all-requires c κs = search gate-length
 
 same-length-3 : tie.Need-same-length-3
 same-length-3 c = search needs

@@ -1,28 +1,26 @@
 -- Write inside a blob, need by need: the loop's turns, refusals 12 and 10, and what is noted decides.
 use mathlib.Core.Path.{_≡_, _∙_}
-use mathlib.Core.List.{List, [], _∷_}
-use mathlib.Core.Logic.{_⊎_, inl, inr}
+use mathlib.Core.List.{List}
+use mathlib.Core.Logic.{inl}
 use Prim.Native.Nat.{ℕ, _+_, _*_, _≤_, _<_}
 use native.Mathlib.Omega.{arith}
 use borrow.Author.Tests.{eq-eqb, ne-eqb}
-use lib.Dec.{eqb}
 use lib.ListN.{length}
 use Rattle.meaning.specs.declared.Edition.{Edition}
 use Rattle.meaning.specs.declared.Refusal.{Refusal}
 use Rattle.meaning.specs.declared.Changed.the-variants as changedCase
 use Rattle.meaning.specs.Lists.{pick}
-use Rattle.meaning.specs.Bytes.{block, dataOf, recorded, recordAt, recordOf, state, encoded}
+use Rattle.meaning.specs.Bytes.{block, recorded, recordAt, state}
 use Rattle.meaning.specs.Refusals.{nowhere}
 use Rattle.meaning.specs.Change.{Change, puts, renewed, changedBy}
 use Rattle.meaning.specs.Calls.{after}
 use Rattle.meaning.specs.Answers.{changeAnswer, Ends}
-use Rattle.laws.proofs.Codec.{encoded-length, record-length}
-use Rattle.laws.proofs.Inversions.{by-test}
+use Rattle.laws.proofs.Puts.{Single, pick-single, renewed-single}
 use Rattle.check_gate.specs.Gate.{Whole}
 use Rattle.check_blob.proofs.visit.VisitAsDefined.{slot-fits}
 use Rattle.plan_slot.specs.change.Turns.{over, Turning}
 use Rattle.plan_slot.proofs.change.SlotLoop.{block-left, record-left, turning-on}
-use Rattle.plan_write.specs.stretch.{planOf, stretched, leafCell, putBy, writePlan, Place, Writable}
+use Rattle.plan_write.specs.stretch.{planOf, putBy, writePlan, Place, Writable}
 use Rattle.plan_write.specs.rewriting.{Unworn}
 use Rattle.check_survey.specs.refusal.{writeBarred}
 use Rattle.check_survey.proofs.refusal.NumberByTests.{write-fresh}
@@ -44,19 +42,9 @@ module _ (e : Edition) (n : ℕ) (hs fs d : List ℕ) (offset : ℕ) (P₀ R₀ 
   unfolding writePlan planOf putBy renewed recorded state
   planned = rw (same-block, same-record)
 
-  plan-one : (s : ℕ) → (plan s ≡ [])
-      ⊎ ((b : List ℕ) × (line : List ℕ) × (plan s ≡ record { slot = s; block = b; line = line } ∷ []) × (length b ≡ e .size) × (length line ≡ 12))
-  unfolding writePlan putBy renewed pick
-  plan-one s =
-      by-test (eqb (planOf e P₀ hs fs d offset s .count) 0)
-      (λ q. inl (rw q))
-      (λ q. inr (
-        encoded e (leafCell (stretched (planOf e P₀ hs fs d offset s) d (dataOf (block e P₀ s)))) s (recorded R₀ s + 1),
-        recordOf (state R₀ s) (recorded R₀ s + 1),
-        rw q,
-        encoded-length e _ s (recorded R₀ s + 1),
-        record-length (state R₀ s) (recorded R₀ s + 1),
-      ))
+  plan-single : (s : ℕ) → Single e s (plan s)
+  unfolding writePlan putBy
+  plan-single s = pick-single e s _ _ _ (inl refl) (renewed-single e R₀ (state R₀ s) s _)
 
   module _ (w : Whole e n P₀ R₀) (l : i < n) where
     pub turn-record : 12 * i + 12 ≤ length R
@@ -81,7 +69,7 @@ module _ (e : Edition) (n : ℕ) (hs fs d : List ℕ) (offset : ℕ) (P₀ R₀ 
     pub write-turn : (P′ R′ : List ℕ) → P′ ≡ puts (e .size) (λ c. c .block) (writePlan e P R hs fs d offset i) P
         → R′ ≡ puts 12 (λ c. c .line) (writePlan e P R hs fs d offset i) R → Turning e n (writePlan e P₀ R₀ hs fs d offset) P₀ R₀ (i + 1) P′ R′
     write-turn P′ R′ ep er =
-        turning-on e n plan P₀ R₀ i P R t l (w .pool) (w .records) (plan-one i) P′ R′ (rw planned at ep) (rw planned at er)
+        turning-on e n plan P₀ R₀ i P R t l (w .pool) (w .records) (plan-single i) P′ R′ (rw planned at ep) (rw planned at er)
 
 -- what is noted of the blob decides
 module _ (e : Edition) (n : ℕ) (P R hs fs : List ℕ) (bytes offset : ℕ) (d : List ℕ) (number : ℕ) (en : number ≡ writeBarred R hs n bytes offset (length d)) where

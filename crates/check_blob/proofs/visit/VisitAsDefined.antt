@@ -18,6 +18,7 @@ use Rattle.meaning.specs.declared.Role.the-variants.{Root, Child}
 use Rattle.meaning.specs.declared.Checked.{Checked}
 use Rattle.meaning.specs.declared.Checked.the-variants.{Passed, Faulty}
 use Rattle.laws.proofs.Inversions.{passed-linked}
+use Rattle.laws.proofs.Codec.{state-is}
 use Rattle.check_blob.specs.visit.{Sized, Within, met}
 
 -- check 1, as far as the code has come: rb is the slot's record, st its state
@@ -32,29 +33,28 @@ module _ (N : ℕ) (R seen : List ℕ) (role : Role) (s : ℕ) where
     link-past l r er = rw (ep, er) (simp (le-ltb s N l))
 
     module _ (l : s < N) (rb : List ℕ) (eb : rb ≡ recordAt R s) (st : ℕ) (es : st ≡ stateOf rb) where
-      state-is : state R s ≡ st
-      unfolding state
-      state-is = sym (es ∙ ap stateOf eb)
+      of-state : state R s ≡ st
+      of-state = sym (state-is R s rb eb st es)
 
       pub link-state : st ≡ 2 → (r : Refusal) → r ≡ at 8 p → Faulty r ≡ linkCheck N R seen role s
       unfolding linkCheck must both
-      link-state z r er = rw (ep, er) (simp (lt-ltb s N l, state-is, eq-eqb st 2 z))
+      link-state z r er = rw (ep, er) (simp (lt-ltb s N l, of-state, eq-eqb st 2 z))
 
       module _ (n : st ≡ 2 → ⊥) where
         pub link-seen : (getD seen s 0 ≡ 0 → ⊥) → (r : Refusal) → r ≡ at 8 p → Faulty r ≡ linkCheck N R seen role s
         unfolding linkCheck must both
-        link-seen m r er = rw (ep, er) (simp (lt-ltb s N l, state-is, ne-eqb st 2 n, ne-eqb (getD seen s 0) 0 m))
+        link-seen m r er = rw (ep, er) (simp (lt-ltb s N l, of-state, ne-eqb st 2 n, ne-eqb (getD seen s 0) 0 m))
 
         module _ (m : getD seen s 0 ≡ 0) where
           pub link-free : (st ≡ 1 → ⊥) → (r : Refusal) → r ≡ at 9 s → Faulty r ≡ linkCheck N R seen role s
           unfolding linkCheck must both
           link-free k r er =
-              rw (ep, er) (simp (lt-ltb s N l, state-is, ne-eqb st 2 n, eq-eqb (getD seen s 0) 0 m, ne-eqb st 1 k))
+              rw (ep, er) (simp (lt-ltb s N l, of-state, ne-eqb st 2 n, eq-eqb (getD seen s 0) 0 m, ne-eqb st 1 k))
 
           pub link-good : st ≡ 1 → Passed ≡ linkCheck N R seen role s
           unfolding linkCheck must both
           link-good k =
-              rw ep (simp (lt-ltb s N l, state-is, ne-eqb st 2 n, eq-eqb (getD seen s 0) 0 m, eq-eqb st 1 k))
+              rw ep (simp (lt-ltb s N l, of-state, ne-eqb st 2 n, eq-eqb (getD seen s 0) 0 m, eq-eqb st 1 k))
 
 pub role-root : (role : Role) → role ≡ Root → true ≡ isRoot role
 unfolding isRoot

@@ -2,9 +2,7 @@
 use mathlib.Core.Path.{_≡_, ap, _∙_, sym}
 use mathlib.Core.Bool.{Bool, true, false}
 use mathlib.Core.List.{List}
-use Prim.Native.Nat.{ℕ, suc, _+_, _-_, _*_, _≤_, _<_}
-use native.Mathlib.Numerals.{add-one}
-use native.Mathlib.Omega.{arith}
+use Prim.Native.Nat.{ℕ, _+_, _-_, _*_, _≤_, _<_}
 use borrow.Author.Tests.{eq-eqb, ne-eqb}
 use lib.ListN.{length, getD}
 use Rattle.meaning.specs.Lists.{pick, range, zeros}
@@ -15,6 +13,8 @@ use Rattle.meaning.specs.declared.Edition.{Edition}
 use Rattle.meaning.specs.declared.Refusal.{Refusal}
 use Rattle.meaning.specs.declared.Checked.{Checked}
 use Rattle.meaning.specs.declared.Checked.the-variants.{Passed, Faulty}
+use Rattle.laws.proofs.Ranges.{left-all, left-step, left-none}
+use Rattle.laws.proofs.Codec.{state-is}
 use Rattle.check_blob.specs.visit.{Sized}
 use Rattle.check_blob.proofs.visit.VisitAsDefined.{slot-fits}
 
@@ -25,8 +25,7 @@ in-pool e n P R seen i z l = slot-fits (e .size) n i P (z .pool) l
 -- the closing pass at one slot
 module _ (e : Edition) (N : ℕ) (P R seen : List ℕ) (i : ℕ) (rb : List ℕ) (er : rb ≡ recordAt R i) (st : ℕ) (es : st ≡ stateOf rb) where
   of-state : state R i ≡ st
-  unfolding state
-  of-state = sym (es ∙ ap stateOf er)
+  of-state = sym (state-is R i rb er st es)
 
   module _ (z : st ≡ 0) (blk : List ℕ) (eb : blk ≡ block e P i) (t : Bool) (et : t ≡ zeros blk) where
     zeros-is : zeros (block e P i) ≡ t
@@ -56,17 +55,17 @@ module _ (e : Edition) (N : ℕ) (P R seen : List ℕ) (i : ℕ) (rb : List ℕ)
 
 -- the closing pass: all slots from the start are all from i on
 pub closing-start : (e : Edition) (N : ℕ) (P R seen : List ℕ) → closing e N P R (range 0 N) seen ≡ closing e N P R (range 0 (N - 0)) seen
-closing-start e N P R seen = let z : N - 0 ≡ N = omega arith in rw z
+closing-start e N P R seen = rw (left-all N)
 
 module _ (e : Edition) (N : ℕ) (P R seen : List ℕ) (i : ℕ) (inv : closing e N P R (range 0 N) seen ≡ closing e N P R (range i (N - i)) seen) where
   pub closing-end : N ≤ i → Passed ≡ closing e N P R (range 0 N) seen
-  unfolding closing range
-  closing-end l = let z : N - i ≡ 0 = omega arith in sym (rw (inv, z))
+  unfolding closing
+  closing-end l = sym (rw (inv, left-none i N l))
 
   module _ (l : i < N) (c : Checked) (ec : c ≡ closingCheck e N P R seen i) where
-    further : closing e N P R (range 0 N) seen ≡ first c (closing e N P R (range (suc i) (N - suc i)) seen)
-    unfolding closing range
-    further = let z : N - i ≡ suc (N - suc i) = omega arith in inv ∙ rw z (rw (← ec))
+    further : closing e N P R (range 0 N) seen ≡ first c (closing e N P R (range (i + 1) (N - (i + 1))) seen)
+    unfolding closing
+    further = inv ∙ rw (left-step i N l) (rw (← ec))
 
     pub closing-stop : (r : Refusal) → c ≡ Faulty r → c ≡ closing e N P R (range 0 N) seen
     unfolding first
@@ -74,4 +73,4 @@ module _ (e : Edition) (N : ℕ) (P R seen : List ℕ) (i : ℕ) (inv : closing 
 
     pub closing-on : c ≡ Passed → closing e N P R (range 0 N) seen ≡ closing e N P R (range (i + 1) (N - (i + 1))) seen
     unfolding first
-    closing-on pc = rw (add-one, further, pc)
+    closing-on pc = rw (further, pc)

@@ -2,8 +2,7 @@
 use mathlib.Core.Path.{_≡_, refl, ap, _∙_, sym}
 use mathlib.Core.Bool.{Bool, true, false}
 use mathlib.Core.List.{List, [], _∷_, _++_}
-use Prim.Native.Nat.{ℕ, suc, _+_, _-_, _≤_, _<_}
-use native.Mathlib.Numerals.{add-one}
+use Prim.Native.Nat.{ℕ, _+_, _-_, _≤_, _<_}
 use native.Mathlib.Omega.{arith}
 use borrow.Author.Tests.{eq-eqb, ne-eqb}
 use lib.Dec.{eqb}
@@ -15,6 +14,8 @@ use Rattle.meaning.specs.Walk.{Found, fault, fine, andThen, fromRoot, roots}
 use Rattle.meaning.specs.declared.Edition.{Edition}
 use Rattle.meaning.specs.declared.Refusal.{Refusal}
 use Rattle.laws.proofs.Roots.{walk-root}
+use Rattle.laws.proofs.Ranges.{left-all, left-step, left-none}
+use Rattle.laws.proofs.Codec.{state-is}
 use Rattle.check_blob.specs.visit.{Sized}
 use Rattle.check_blob.specs.declared.notes.Walked.{Walked}
 use Rattle.check_blob.specs.declared.notes.Walked.the-variants.{Fault, Fine}
@@ -47,21 +48,20 @@ map-fine g y b seen (fine a seen′) e = cc
 -- the walk from one slot: rb is its record, st its state
 module _ (e : Edition) (N : ℕ) (P R : List ℕ) (named i b k : ℕ) (o seen : List ℕ)
     (rb : List ℕ) (er : rb ≡ recordAt R i) (st : ℕ) (es : st ≡ stateOf rb) where
-  state-is : state R i ≡ st
-  unfolding state
-  state-is = sym (es ∙ ap stateOf er)
+  of-state : state R i ≡ st
+  of-state = sym (state-is R i rb er st es)
 
   abbrev step : Found Noted
   step = rootStep e N P R named i (kept b k o) seen
 
   pub slot-no-root : (st ≡ 2 → ⊥) → met (Fine b k) seen o ≡ step
   unfolding rootStep met pick kept
-  slot-no-root n = simp (state-is, ne-eqb st 2 n)
+  slot-no-root n = simp (of-state, ne-eqb st 2 n)
 
   module _ (z : st ≡ 2) where
     step-is : step ≡ mapFound (λ c. pick (eqb i named) (noteBlob o c) (kept b k o)) (fromRoot e N P R seen i)
     unfolding rootStep pick kept
-    step-is = simp (state-is, eq-eqb st 2 z) (if-named e N P R seen i named (kept b k o) (fromRoot e N P R seen i) refl)
+    step-is = simp (of-state, eq-eqb st 2 z) (if-named e N P R seen i named (kept b k o) (fromRoot e N P R seen i) refl)
 
     pub slot-named : i ≡ named → (r : Walked) (sx ox : List ℕ) → met r sx ox ≡ noteRoot e N P R seen i o → met r sx ox ≡ step
     unfolding noteRoot pick
@@ -124,22 +124,20 @@ module _ (e : Edition) (N : ℕ) (P R : List ℕ) (named : ℕ) where
       ∙ sym (pick-then (eqb (state R s) 2) (mapFound (noteIfNamed named x) (fromRoot e N P R seen s)) (fine x seen) (λ y seen′. rootsNoted e N P R named ss y seen′))
 
   pub roots-start : (x : Noted) (seen : List ℕ) → rootsNoted e N P R named (range 0 N) x seen ≡ rootsNoted e N P R named (range 0 (N - 0)) x seen
-  roots-start x seen = let z : N - 0 ≡ N = omega arith in rw z
+  roots-start x seen = rw (left-all N)
 
   -- the loop over the slots: all from the start are all from i on
   module _ (x₀ : Noted) (seen₀ : List ℕ) (i b k : ℕ) (o seen : List ℕ)
       (inv : rootsNoted e N P R named (range 0 N) x₀ seen₀ ≡ rootsNoted e N P R named (range i (N - i)) (kept b k o) seen) where
     pub roots-end : N ≤ i → met (Fine b k) seen o ≡ rootsNoted e N P R named (range 0 N) x₀ seen₀
-    unfolding rootsNoted roots range mapFound noteNamed met kept
-    roots-end l = let z : N - i ≡ 0 = omega arith in sym (rw (inv, z))
+    unfolding rootsNoted roots mapFound noteNamed met kept
+    roots-end l = sym (rw (inv, left-none i N l))
 
     module _ (l : i < N) (r : Walked) (sx ox : List ℕ) (e′ : met r sx ox ≡ rootStep e N P R named i (kept b k o) seen) where
-      next : rootsNoted e N P R named (range 0 N) x₀ seen₀ ≡ andThen (met r sx ox) (λ y seen′. rootsNoted e N P R named (range (suc i) (N - suc i)) y seen′)
-      unfolding range
+      next : rootsNoted e N P R named (range 0 N) x₀ seen₀ ≡ andThen (met r sx ox) (λ y seen′. rootsNoted e N P R named (range (i + 1) (N - (i + 1))) y seen′)
       next =
-          let z : N - i ≡ suc (N - suc i) = omega arith in
-          let a = roots-step i (range (suc i) (N - suc i)) (kept b k o) seen in
-          rw (inv, z) (rw (← e′) at a)
+          let a = roots-step i (range (i + 1) (N - (i + 1))) (kept b k o) seen in
+          rw (inv, left-step i N l) (rw (← e′) at a)
 
       pub roots-stop : (f : Refusal) → r ≡ Fault f → (sy oy : List ℕ) → met r sy oy ≡ rootsNoted e N P R named (range 0 N) x₀ seen₀
       unfolding met andThen
@@ -148,4 +146,4 @@ module _ (e : Edition) (N : ℕ) (P R : List ℕ) (named : ℕ) where
       pub roots-on : (b′ k′ : ℕ) → r ≡ Fine b′ k′
           → rootsNoted e N P R named (range 0 N) x₀ seen₀ ≡ rootsNoted e N P R named (range (i + 1) (N - (i + 1))) (kept b′ k′ ox) sx
       unfolding met andThen kept
-      roots-on b′ k′ ef = rw (add-one, next, ef)
+      roots-on b′ k′ ef = rw (next, ef)

@@ -13,6 +13,11 @@ use Rattle.laws.proofs.Inversions.{by-test}
 use Rattle.check_survey.specs.worn.{wornAmong}
 use Rattle.check_survey.specs.refusal.{writeBarred, resizeBarred}
 
+-- no refusal: the blob is not worn, whatever follows refusal 12
+not-worn : (w : Bool) (after number : ℕ) → number ≡ pick w 12 after → number ≡ 0 → w ≡ false
+unfolding pick
+not-worn w after number en z = by-test w (λ t. absurd (let y = rw t at (sym en ∙ z) in omega arith)) (λ t. t)
+
 -- of a write
 module _ (R hs : List ℕ) (n bytes offset size : ℕ) (w : Bool) (ew : w ≡ wornAmong R hs n) where
   pub write-worn : w ≡ true → 12 ≡ writeBarred R hs n bytes offset size
@@ -36,21 +41,21 @@ module _ (R hs : List ℕ) (n bytes offset size : ℕ) (w : Bool) (ew : w ≡ wo
 -- no refusal: the blob is not worn
 pub write-fresh : (R hs : List ℕ) (n bytes offset size number : ℕ) → number ≡ writeBarred R hs n bytes offset size → number ≡ 0
     → wornAmong R hs n ≡ false
-unfolding writeBarred pick
-write-fresh R hs n bytes offset size number en z =
-    by-test (wornAmong R hs n) (λ t. absurd (let y = rw t at (sym en ∙ z) in omega arith)) (λ t. t)
+unfolding writeBarred
+write-fresh R hs n bytes offset size number en z = not-worn (wornAmong R hs n) _ number en z
+
+-- whether a resize lacks room: more new blocks than free slots
+abbrev pub lacking : Edition → (leaves len free : ℕ) → Bool
+lacking e leaves len free = ltb free (total (e .fan) (leavesFor (e .leaf) len) - total (e .fan) leaves)
 
 -- of a resize
 module _ (e : Edition) (R hs : List ℕ) (n leaves len free : ℕ) where
-  abbrev pub lacking : Bool
-  lacking = ltb free (total (e .fan) (leavesFor (e .leaf) len) - total (e .fan) leaves)
-
   module _ (w : Bool) (ew : w ≡ wornAmong R hs n) where
     pub resize-worn : w ≡ true → 12 ≡ resizeBarred e R hs n leaves len free
     unfolding resizeBarred pick
     resize-worn q = rw (← ew, q)
 
-    module _ (q : w ≡ false) (l : Bool) (el : l ≡ lacking) where
+    module _ (q : w ≡ false) (l : Bool) (el : l ≡ lacking e leaves len free) where
       pub resize-full : l ≡ true → 11 ≡ resizeBarred e R hs n leaves len free
       unfolding resizeBarred pick
       resize-full t = rw (← ew, q, ← el, t)
@@ -62,9 +67,9 @@ module _ (e : Edition) (R hs : List ℕ) (n leaves len free : ℕ) where
   -- no refusal: the blob is not worn, and there is room
   module _ (number : ℕ) (en : number ≡ resizeBarred e R hs n leaves len free) (z : number ≡ 0) where
     pub resize-fresh : wornAmong R hs n ≡ false
-    unfolding resizeBarred pick
-    resize-fresh = by-test (wornAmong R hs n) (λ t. absurd (let y = rw t at (sym en ∙ z) in omega arith)) (λ t. t)
+    unfolding resizeBarred
+    resize-fresh = not-worn (wornAmong R hs n) _ number en z
 
-    pub resize-room : lacking ≡ false
+    pub resize-room : lacking e leaves len free ≡ false
     unfolding resizeBarred pick
-    resize-room = by-test lacking (λ t. absurd (let y = rw (resize-fresh, t) at (sym en ∙ z) in omega arith)) (λ t. t)
+    resize-room = by-test (lacking e leaves len free) (λ t. absurd (let y = rw (resize-fresh, t) at (sym en ∙ z) in omega arith)) (λ t. t)

@@ -4,7 +4,7 @@
 use mathlib.Core.Path.{_≡_, refl, sym, ap, ap₂, _∙_}
 use mathlib.Core.Logic.{_⊎_, inl, inr}
 use mathlib.Core.Bool.{Bool, true, false}
-use mathlib.Core.List.{List, [], _∷_, _++_, map, List·Memᴰ, List·Memᴰ·head, List·Memᴰ·tail, List·Memᴰ·not-nil, List·Memᴰ·cases-cons}
+use mathlib.Core.List.{List, [], _∷_, map, List·Memᴰ, List·Memᴰ·head, List·Memᴰ·tail, List·Memᴰ·not-nil, List·Memᴰ·cases-cons, Memᴰ·append-left}
 use Prim.Native.Nat.{ℕ, zero, suc, _-_, _≤_, _<_}
 use native.Mathlib.Nat.{sub-zero}
 use native.Mathlib.Omega.{arith}
@@ -23,11 +23,6 @@ use Rattle.laws_resize.specs.growth.Sites.{Site, counting, sites, sitesO
 use Rattle.laws_resize.specs.growth.Cuts.{ofFirst, leftmost}
 use Rattle.laws_resize.specs.growth.Forms.{past}
 use Rattle.laws_resize.proofs.growth.Sites.{site-slots}
-
--- in the first of two lists, and in the second
-in-left : {A : Type 0} {x : A} {l : List A} (m : List A) → List·Memᴰ x l → List·Memᴰ x (l ++ m)
-in-left m (List·Memᴰ·head q) = List·Memᴰ·head q
-in-left m (List·Memᴰ·tail i) = List·Memᴰ·tail (in-left m i)
 
 -- a slot that is another's than these is not found among them
 lacks-other : (l : List (ℕ × Site)) (s t : ℕ) (x : Site) → Lacks (map (λ y. y .0) l) t → List·Memᴰ (s, x) l → t ≡ s → ⊥
@@ -99,8 +94,8 @@ module _ (e : Edition) (some : 1 ≤ e .leaf) (two : 2 ≤ e .fan) where
           → List·Memᴰ (ofFirst (0, []) (leftmost h k) ts .0, record { height = suc h - suc k; first = i; items = ofFirst (0, []) (leftmost h k) ts .1 })
           (counting (count h) (sites h) i ts)
       first each edge [] some r = absurd (omega arith)
-      first each edge (u ∷ []) some r = rw z (in-left _ (each i k false edge u r (omega arith)))
-      first each edge (u ∷ (v ∷ vs)) some r = rw z (in-left _ (each i k false false u (r .0) (omega arith)))
+      first each edge (u ∷ []) some r = rw z (Memᴰ·append-left _ (each i k false edge u r (omega arith)))
+      first each edge (u ∷ (v ∷ vs)) some r = rw z (Memᴰ·append-left _ (each i k false false u (r .0) (omega arith)))
 
   -- the next one is its first child
   left-next : (h k : ℕ) (root edge : Bool) (t : Tree h) → ShapedTree e h root edge t → k < h → leftmost h (suc k) t .0

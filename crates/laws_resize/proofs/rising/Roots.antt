@@ -22,7 +22,7 @@ use Rattle.laws_resize.proofs.growth.Places.{left-row}
 use Rattle.laws_resize.specs.rising.{topAt}
 use Rattle.laws_resize.proofs.rising.Tops.{top-own, top-height}
 use Rattle.laws_resize.proofs.rising.Bounds.{longer-height}
-use Rattle.laws_resize.proofs.rising.Same.{same-heights, same-grown, same-cut}
+use Rattle.laws_resize.proofs.rising.SameByCount.{same-heights, same-grown, same-cut}
 use Rattle.laws_resize.proofs.rising.Leaves.{root-share}
 
 -- two blocks are the same by height and count, if those of the same height are by count

@@ -1,5 +1,5 @@
 -- The slot is the root's, or none of the blob, or another block of it.
-use Rattle.plan_longer.proofs.Plan.{root-planned, root-can-rise, free-planned, old-planned, old-can-rise}
+use Rattle.plan_longer.proofs.PlanByOwner.{root-planned, root-can-rise, free-planned, old-planned, old-can-rise}
 use borrow.Author.Needs.{needs}
 use Rattle.plan_longer.proofs.plan_slot.Statement.{statement}
 use Rattle.plan_longer.proofs.plan_slot.Tie as tie

@@ -1,6 +1,6 @@
 -- The branches in the plan's order: another blob's slot, the root, a block that goes, one that stays.
-use Rattle.plan_shorter.proofs.Plan.{none-few, here-power, here-most, stays-rising, goes-rising, noted-rising}
-use Rattle.plan_shorter.proofs.Plan.{plan-other, plan-root, plan-gone, plan-old}
+use Rattle.plan_shorter.proofs.PlanByCases.{none-few, here-power, here-most, stays-rising, goes-rising, noted-rising}
+use Rattle.plan_shorter.proofs.PlanByCases.{plan-other, plan-root, plan-gone, plan-old}
 use borrow.Author.Needs.{needs}
 use Rattle.plan_shorter.proofs.plan_slot.Statement.{statement}
 use Rattle.plan_shorter.proofs.plan_slot.Tie as tie

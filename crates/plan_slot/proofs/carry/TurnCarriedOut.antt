@@ -1,37 +1,30 @@
 -- A turn carried out, case by case: what is stored of a slot is what the turn says, nothing or one change.
-use mathlib.Core.Path.{_≡_, ap, _∙_}
+use mathlib.Core.Path.{_≡_, _∙_}
 use mathlib.Core.List.{List}
 use Prim.Native.Nat.{ℕ, _+_, _-_, _^_, _<_}
 use native.Mathlib.Omega.{arith}
 use mir.Syntax.{w64}
 use mir.Val.{Fits}
 use lib.ListN.{replicate}
-use Rattle.meaning.specs.Bytes.{blockBytes, recordAt, recordOf, stateOf, recordedOf, state, recorded, lastVersion}
+use Rattle.meaning.specs.Bytes.{blockBytes, recordAt, recordOf, stateOf, recordedOf, recorded, lastVersion}
 use Rattle.meaning.specs.Change.{put, puts, freed}
 use Rattle.meaning.specs.declared.Edition.{Edition}
+use Rattle.laws.proofs.Codec.{state-is, version-is}
 use Rattle.plan_slot.specs.declared.turn.Turn.{Turn}
 use Rattle.plan_slot.specs.declared.turn.Turn.the-variants.{Stays, Goes, Takes, Renews}
 use Rattle.plan_slot.specs.turn.{stored, turned, Rises}
 
 -- slot s, whose record is line
 module _ (R : List ℕ) (s : ℕ) (line : List ℕ) (el : line ≡ recordAt R s) where
-  version-is : (v : ℕ) → v ≡ recordedOf line → v ≡ recorded R s
-  unfolding recorded
-  version-is v ev = ev ∙ ap recordedOf el
-
-  state-is : (st : ℕ) → st ≡ stateOf line → st ≡ state R s
-  unfolding state
-  state-is st es = es ∙ ap stateOf el
-
   -- a version that may rise has room for one more
   module _ (t : Turn) (v : ℕ) (ev : v ≡ recordedOf line) (r : Rises t (recorded R s)) (h c : ℕ) where
     pub takes-fits : t ≡ Takes h c → Fits w64 (v + 1)
     unfolding Rises lastVersion
-    takes-fits q = let z : recorded R s < 2 ^ 64 - 1 = rw q at r in let y = version-is v ev in record { fits = omega arith }
+    takes-fits q = let z : recorded R s < 2 ^ 64 - 1 = rw q at r in let y = version-is R s line el v ev in record { fits = omega arith }
 
     pub renews-fits : t ≡ Renews h c → Fits w64 (v + 1)
     unfolding Rises lastVersion
-    renews-fits q = let z : recorded R s < 2 ^ 64 - 1 = rw q at r in let y = version-is v ev in record { fits = omega arith }
+    renews-fits q = let z : recorded R s < 2 ^ 64 - 1 = rw q at r in let y = version-is R s line el v ev in record { fits = omega arith }
 
 -- carried out
 module _ (e : Edition) (R : List ℕ) (s : ℕ) (t : Turn) (x : List ℕ) where

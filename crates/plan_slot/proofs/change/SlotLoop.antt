@@ -1,9 +1,8 @@
 -- A loop over the slots against a list of changes: one turn makes the changes of one slot, and what is left is as at the start.
 use mathlib.Core.Path.{_≡_, refl, ap, _∙_, sym}
 use mathlib.Core.List.{List, [], _∷_, _++_}
-use mathlib.Core.Logic.{_⊎_, inl, inr}
+use mathlib.Core.Logic.{inl, inr}
 use Prim.Native.Nat.{ℕ, zero, suc, _+_, _-_, _*_, _≤_, _<_}
-use native.Mathlib.Numerals.{add-one}
 use native.Mathlib.Omega.{arith}
 use lib.ListN.{length, take, drop, replicate}
 use lib.Seq.{drop-drop}
@@ -13,17 +12,19 @@ use Rattle.meaning.specs.Change.{Change, put, puts, changed, changes}
 use Rattle.meaning.specs.Tree.{Held}
 use Rattle.meaning.specs.declared.Edition.{Edition}
 use Rattle.laws.proofs.Parts.{pasted-length, drop-pasted}
+use Rattle.laws.proofs.Ranges.{left-step, left-none}
+use Rattle.laws.proofs.Puts.{Single}
 use Rattle.check_blob.proofs.visit.VisitAsDefined.{slot-fits}
 use Rattle.plan_slot.specs.change.Turns.{over, Turning}
 
 -- the changes of the slots from i on
 pub over-none : (plan : ℕ → List Change) (i n : ℕ) → n ≤ i → over plan i (n - i) ≡ []
-unfolding over joined range
-over-none plan i n h = let z : n - i ≡ 0 = omega arith in rw z
+unfolding over joined
+over-none plan i n h = rw (left-none i n h)
 
 pub over-step : (plan : ℕ → List Change) (i n : ℕ) → i < n → over plan i (n - i) ≡ plan i ++ over plan (i + 1) (n - (i + 1))
-unfolding over joined range
-over-step plan i n h = let z : n - i ≡ suc (n - suc i) = omega arith in rw (z, add-one)
+unfolding over joined
+over-step plan i n h = rw (left-step i n h)
 
 -- the definition's changes are those of each slot
 pub changes-over : (e : Edition) (R : List ℕ) (taken : ℕ) (old new : ℕ → Held) (i k : ℕ)
@@ -121,8 +122,7 @@ over-same plan plan′ i (suc k) h = rw (h i) (ap (λ (l : List Change). plan′
 -- one turn, whatever the plan says of the slot: nothing, or one store
 pub turning-on : (e : Edition) (n : ℕ) (plan : ℕ → List Change) (P₀ R₀ : List ℕ) (i : ℕ) (P R : List ℕ) → Turning e n plan P₀ R₀ i P R → i < n
     → length P₀ ≡ e .size * n → length R₀ ≡ 12 * n
-    → (plan i ≡ []) ⊎ ((b : List ℕ) × (line : List ℕ) × (plan i ≡ record { slot = i; block = b; line = line } ∷ []) × (length b ≡ e .size) × (length line ≡ 12))
-    → (P′ R′ : List ℕ) → P′ ≡ puts (e .size) (λ c. c .block) (plan i) P → R′ ≡ puts 12 (λ c. c .line) (plan i) R → Turning e n plan P₀ R₀ (i + 1) P′ R′
+    → Single e i (plan i) → (P′ R′ : List ℕ) → P′ ≡ puts (e .size) (λ c. c .block) (plan i) P → R′ ≡ puts 12 (λ c. c .line) (plan i) R → Turning e n plan P₀ R₀ (i + 1) P′ R′
 unfolding puts
 turning-on e n plan P₀ R₀ i P R t l lp lr (inl z) P′ R′ ep er =
     rw (ep, er, z) (turning-skip e n plan P₀ R₀ i P R t l z)

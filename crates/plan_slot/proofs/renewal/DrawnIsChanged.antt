@@ -2,6 +2,7 @@
 use mathlib.Core.Path.{_≡_, refl, ap, _∙_}
 use mathlib.Core.Bool.{Bool, true, false}
 use mathlib.Core.List.{List, [], _∷_}
+use mathlib.Core.Logic.{inl}
 use Prim.Native.Nat.{ℕ, _+_, _<_}
 use lib.Dec.{eqb}
 use lib.ListN.{length}
@@ -10,6 +11,7 @@ use Rattle.meaning.specs.Lists.{pick, both}
 use Rattle.meaning.specs.Edition.{Proper}
 use Rattle.meaning.specs.Bytes.{Cell, heightOf, countOf, state, recorded, lastVersion, sameCell}
 use Rattle.meaning.specs.Change.{renewed}
+use Rattle.laws.proofs.Puts.{Single, pick-single, renewed-single}
 use Rattle.plan_slot.specs.declared.payload.Drawn.{Drawn}
 use Rattle.plan_slot.specs.payload.{Draws}
 use Rattle.plan_slot.proofs.payload.Cells.{draws-block}
@@ -59,3 +61,8 @@ pub renewal-same : (e : Edition) (R : List ℕ) (s : ℕ) (b : List ℕ) (old ne
     → renewal e R s b new ≡ pick (sameCell old new) [] (renewed e R (state R s) s new ∷ [])
 unfolding renewal
 renewal-same e R s b old new same = rw same
+
+-- a renewal is nothing, or one change
+pub renewal-single : (e : Edition) (R : List ℕ) (s : ℕ) (b : List ℕ) (c : Cell) → Single e s (renewal e R s b c)
+unfolding renewal
+renewal-single e R s b c = pick-single e s _ _ _ (inl refl) (renewed-single e R (state R s) s c)

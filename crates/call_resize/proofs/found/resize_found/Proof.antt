@@ -1,5 +1,5 @@
 -- The refusal's number with nothing changed, or the blob as it becomes.
-use Rattle.call_resize.proofs.found.Answers.{resize-barred, resize-roomy, resize-done}
+use Rattle.call_resize.proofs.found.FoundAnswered.{resize-barred, resize-roomy, resize-done}
 use borrow.Author.Needs.{needs}
 use Rattle.call_resize.proofs.found.resize_found.Statement.{statement}
 use Rattle.call_resize.proofs.found.resize_found.Tie as tie

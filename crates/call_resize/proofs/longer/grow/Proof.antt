@@ -1,5 +1,5 @@
 -- The root's block is kept, so what is planned is planned with that block.
-use Rattle.call_resize.proofs.longer.Kept.{root-place, kept-root, kept-puts}
+use Rattle.call_resize.proofs.longer.RootKept.{root-place, kept-root, kept-puts}
 use borrow.Author.Needs.{needs}
 use Rattle.call_resize.proofs.longer.grow.Statement.{statement}
 use Rattle.call_resize.proofs.longer.grow.Tie as tie

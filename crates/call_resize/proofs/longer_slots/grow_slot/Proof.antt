@@ -1,5 +1,5 @@
 -- The slot is planned, and the plan carried out.
-use Rattle.call_resize.proofs.longer_slots.Turns.{here-places, planned-puts}
+use Rattle.call_resize.proofs.longer_slots.TurnsAsPlanned.{here-places, planned-puts}
 use borrow.Author.Needs.{needs}
 use Rattle.call_resize.proofs.longer_slots.grow_slot.Statement.{statement}
 use Rattle.call_resize.proofs.longer_slots.grow_slot.Tie as tie

@@ -5,7 +5,7 @@ use lib.ListN.{length}
 use Rattle.plan_slot.specs.change.Turns.{Turning}
 use Rattle.plan_slot.proofs.change.SlotLoop.{turning-start, pool-turned, records-turned}
 use Rattle.plan_shorter.specs.Plans.{cutPlan}
-use Rattle.call_resize.proofs.shorter_slots.Loop.{turn-here, turn-places, turn-fresh, turn-done, turn-small}
+use Rattle.call_resize.proofs.shorter_slots.TurnsAsPlanned.{turn-here, turn-places, turn-fresh, turn-done, turn-small}
 use borrow.Author.Needs.{needs}
 use Rattle.call_resize.proofs.shorter_slots.cut_all.Statement.{statement}
 use Rattle.call_resize.proofs.shorter_slots.cut_all.Tie as tie

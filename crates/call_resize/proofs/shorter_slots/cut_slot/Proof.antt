@@ -1,5 +1,5 @@
 -- The turn that is planned is carried out.
-use Rattle.call_resize.proofs.shorter_slots.Loop.{carry-rises, carry-payload, carry-pool, carry-records}
+use Rattle.call_resize.proofs.shorter_slots.TurnsAsPlanned.{carry-rises, carry-payload, carry-pool, carry-records}
 use borrow.Author.Needs.{needs}
 use Rattle.call_resize.proofs.shorter_slots.cut_slot.Statement.{statement}
 use Rattle.call_resize.proofs.shorter_slots.cut_slot.Tie as tie

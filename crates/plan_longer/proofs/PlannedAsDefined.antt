@@ -27,7 +27,7 @@ use Rattle.laws_resize.proofs.growth.Resized.{resize-changes}
 use Rattle.laws_resize.specs.rising.{topAt}
 use Rattle.laws_resize.proofs.rising.Rises.{root-top}
 use Rattle.laws_resize.proofs.rising.Roots.{same-longer}
-use Rattle.laws_resize.proofs.rising.Same.{same-grown}
+use Rattle.laws_resize.proofs.rising.SameByCount.{same-grown}
 use Rattle.check_gate.specs.Gate.{Whole}
 use Rattle.check_survey.specs.sites.Spelt.{blobAt, siteAt}
 use Rattle.check_survey.specs.sites.Known.{Known}
@@ -40,7 +40,7 @@ use Rattle.plan_longer.specs.declared.towers.Tower.{Tower}
 use Rattle.plan_longer.specs.enlarged.{rootEnd, oldEnd}
 use Rattle.plan_longer.specs.taken.{newEnd, freePlan}
 use Rattle.plan_longer.specs.Plans.{Numbers, growPlan, growPlans}
-use Rattle.plan_longer.proofs.Ready.{root-row, root-count, root-height, noted-at, noted-height, noted-count, noted-share}
+use Rattle.plan_longer.proofs.ReadyToGrow.{root-row, root-count, root-height, noted-at, noted-height, noted-count, noted-share}
 
 -- the same numbers and the same row make the same root, and the same new block
 top-same : (e : Edition) (len : ℕ) (free kept row : List ℕ) (n m t u h i g j : ℕ) → n ≡ m → t ≡ u → h ≡ i → g ≡ j → row ≡ rowOf i kept

@@ -1,16 +1,11 @@
--- No block of a blob is higher than its root, and no more slots are usable than there are.
+-- No block of a blob is higher than its root.
 use mathlib.Core.Path.{_≡_, ap}
 use mathlib.Core.Logic.{_⊎_, inl, inr}
 use mathlib.Core.List.{List, [], _∷_, map, List·Memᴰ, List·Memᴰ·not-nil, List·Memᴰ·cases-cons}
 use mathlib.Core.List.{List·Memᴰ·append-cases, List·Memᴰ·eq-of-singleton}
 use Prim.Native.Nat.{ℕ, zero, suc, _+_, _≤_}
 use native.Mathlib.Omega.{arith}
-use lib.ListN.{length}
-use Rattle.meaning.specs.declared.Edition.{Edition}
-use Rattle.meaning.specs.Bytes.{usableSlot}
 use Rattle.meaning.specs.Tree.{Tree, Blob, slotOf}
-use Rattle.meaning.specs.Calls.{usable}
-use Rattle.laws.proofs.Ranges.{filter-few}
 use Rattle.laws_resize.specs.growth.Room.{count}
 use Rattle.laws_resize.specs.growth.Sites.{Site, counting, sites, sitesOf, at, sited}
 use Rattle.laws_resize.proofs.growth.Places.{sited-listed}
@@ -43,8 +38,3 @@ tree-low (suc h) i t s x m = by (row-low h (tree-low h) i (t .1) s x) (List·Mem
 pub site-low : (b : Blob) (s : ℕ) (x : Site) → sited (sitesOf b) s ≡ at x → x .height ≤ b .height
 unfolding sitesOf
 site-low b s x found = tree-low (b .height) 0 (b .tree) s x (sited-listed (sitesOf b) s x found)
-
--- no more slots are usable than there are
-pub usable-few : (e : Edition) (n : ℕ) (P R : List ℕ) → length (usable e n P R) ≤ n
-unfolding usable
-usable-few e n P R = filter-few (usableSlot R) 0 n

@@ -20,6 +20,7 @@ use Rattle.laws.proofs.Inversions.{by-test}
 use Rattle.laws.proofs.Totals.{total-le}
 use Rattle.laws.proofs.Shapes.{shaped-leaves, shaped-height}
 use Rattle.laws.proofs.Walked.{block-length}
+use Rattle.laws.proofs.Ranges.{usable-few}
 use Rattle.laws_resize.specs.growth.Sites.{sitesOf, at, sited, rootRow}
 use Rattle.laws_resize.specs.growth.Slots.{taken}
 use Rattle.laws_resize.proofs.growth.Places.{root-site}
@@ -37,7 +38,7 @@ use Rattle.plan_longer.specs.declared.towers.Tower.{Tower}
 use Rattle.plan_longer.specs.towers.{Towers, RootBlock}
 use Rattle.plan_longer.specs.enlarged.{Spot}
 use Rattle.plan_longer.specs.Plans.{Numbers, Here, AllHere}
-use Rattle.plan_longer.proofs.Low.{site-low, usable-few}
+use Rattle.plan_longer.proofs.NoneHigher.{site-low}
 
 module _ (e : Edition) (p : Proper e) (n : ℕ) (P R : List ℕ) (r bytes leaves : ℕ) (row hs fs : List ℕ)
     (k : Known e n P R r bytes leaves row hs fs) (w : Whole e n P R) where

@@ -17,7 +17,8 @@ use Rattle.plan_slot.specs.change.Places.{Places}
 use Rattle.plan_slot.specs.change.Turns.{Turning}
 use Rattle.plan_slot.proofs.change.SlotLoop.{block-left, record-left, turning-on}
 use Rattle.plan_slot.specs.renewal.{renewal}
-use Rattle.plan_slot.proofs.renewal.Single.{Single, pick-single, freed-single, renewal-single}
+use Rattle.laws.proofs.Puts.{Single, pick-single, freed-single}
+use Rattle.plan_slot.proofs.renewal.DrawnIsChanged.{renewal-single}
 use Rattle.plan_tree.specs.declared.cuts.Cut.{Cut}
 use Rattle.plan_shorter.specs.Plans.{Here, Rising, rootEnd, oldEnd, cutPlan}
 

@@ -37,8 +37,8 @@ use Rattle.plan_slot.proofs.change.SlotLoop.{changes-over, over-same}
 use Rattle.plan_write.specs.stretch.{touchedBy, stretched, leafCell, writePlan, Counted}
 use Rattle.plan_write.proofs.stretch.Stretches.{touched-part}
 use Rattle.plan_write.specs.rewriting.{Unworn}
-use Rattle.plan_write.proofs.rewriting.Own.{leaf-part, leaf-reach}
-use Rattle.plan_write.proofs.rewriting.Plans.{planned-leaf, planned-other}
+use Rattle.plan_write.proofs.rewriting.WrittenAsItIs.{leaf-part, leaf-reach}
+use Rattle.plan_write.proofs.rewriting.LeafPlanned.{planned-leaf, planned-other}
 
 -- a claim of each cell, of the one that a slot holds
 every-held : (Q : ℕ × Cell → Type 0) (cs : List (ℕ × Cell)) → Every Q cs → (s : ℕ) (c : Cell) → held cs s ≡ just c → Q (s, c)

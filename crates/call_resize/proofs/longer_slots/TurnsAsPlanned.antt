@@ -19,7 +19,8 @@ use Rattle.plan_slot.specs.change.Places.{Places}
 use Rattle.plan_slot.specs.change.Turns.{Turning}
 use Rattle.plan_slot.proofs.change.SlotLoop.{block-left, record-left, turning-on}
 use Rattle.plan_slot.specs.renewal.{renewal}
-use Rattle.plan_slot.proofs.renewal.Single.{Single, pick-single, renewed-single, renewal-single}
+use Rattle.laws.proofs.Puts.{Single, pick-single, renewed-single}
+use Rattle.plan_slot.proofs.renewal.DrawnIsChanged.{renewal-single}
 use Rattle.plan_longer.specs.declared.fresh.Growth.{Growth}
 use Rattle.plan_longer.specs.declared.towers.Tower.{Tower}
 use Rattle.plan_longer.specs.enlarged.{oldEnd}

@@ -54,12 +54,12 @@ module _ (e : Edition) (n : ℕ) (P R : List ℕ) (r bytes leaves : ℕ) (hs fs 
     unfolding resizeOn resizedTo
     unworn is = on-blob ∙ worn-passed e n P R r bytes leaves (g .row) hs fs (g .known) is _
 
-    room : lacking e R hs n leaves len free ≡ ltb (length (usable e n P R)) (newBlocks e n P R len b)
+    room : lacking e leaves len free ≡ ltb (length (usable e n P R)) (newBlocks e n P R len b)
     unfolding newBlocks
     room = rw (ef, usable-all e n P R, g .known .leaves)
 
     -- refusal 11
-    full-ends : wornAmong R hs n ≡ false → lacking e R hs n leaves len free ≡ true
+    full-ends : wornAmong R hs n ≡ false → lacking e leaves len free ≡ true
         → Ends e changeAnswer (resizeIn e n P R r len) P R (changedCase.Refused (nowhere 11)) P R
     unfolding refuseFull refuseIf changeAnswer after
     full-ends sound is =
@@ -74,7 +74,7 @@ module _ (e : Edition) (n : ℕ) (P R : List ℕ) (r bytes leaves : ℕ) (hs fs 
           by-test (wornAmong R hs n)
           (λ t. rw (eq, en, ← resize-worn e R hs n leaves len free _ refl t) (worn-ends t))
           (λ t.
-          by-test (lacking e R hs n leaves len free)
+          by-test (lacking e leaves len free)
           (λ l. rw (eq, en, ← resize-full e R hs n leaves len free _ refl t _ refl l) (full-ends t l))
           (λ l. absurd (some (en ∙ sym (resize-none e R hs n leaves len free _ refl t _ refl l)))))
 
