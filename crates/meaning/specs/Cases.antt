@@ -1,5 +1,5 @@
--- Document 01's numbers to try that are marked P, its whole one-slot example, a resize worked out slot by slot, and an example of each refusal: one
--- statement over one list of cases, which computes. A case is data, read by the function `right` alone.
+-- Document 01's numbers to try that are marked P, its whole one-slot example, a resize worked out slot by slot, and an example of each refusal; then
+-- child links and the last version. One statement over one list of cases, which computes. A case is data, read by the function `right` alone.
 use mathlib.Core.Path.{_≡_, refl}
 use mathlib.Core.Bool.{Bool, true, false}
 use mathlib.Core.List.{List, [], _∷_, _++_, map}
@@ -8,7 +8,7 @@ use lib.Dec.{eqb}
 use lib.ListN.{replicate, set}
 use Rattle.meaning.specs.Lists.{pick, both, part, pasted, joined, range, filter, all, ofLast, mapLast, only, sameList, zeros, number, bytes, padded, fours}
 use Rattle.meaning.specs.Edition.{one}
-use Rattle.meaning.specs.Bytes.{Cell, sameCell, itemBytes, header, blockBytes, encoded, block, heightOf, countOf, ownSlot, versionOf, dataOf, childrenOf, recordWith, recordOf, recordAt, stateOf, recordedOf, state, recorded, soundRecord, lastVersion, usableSlot}
+use Rattle.meaning.specs.Bytes.{sameCell, itemBytes, header, blockBytes, encoded, block, heightOf, countOf, ownSlot, versionOf, dataOf, childrenOf, recordWith, recordOf, recordAt, stateOf, recordedOf, state, recorded, soundRecord, lastVersion, usableSlot}
 use Rattle.meaning.specs.Tree.{slotOf, atSlot, content, leaves, cells, rootOf, contentOf, leavesOf, cellsOf, slotsOf, lengthOf, held}
 use Rattle.meaning.specs.Shape.{up, leavesFor, totalWithin, total, leastCount, mostCount}
 use Rattle.meaning.specs.Refusals.{refusalOf, at, nowhere, must, first, slotNumber}
@@ -45,17 +45,31 @@ pub data Case : Type 0 where
   script : (N : ℕ) → List Step → Case
   -- on this store, a call and the refusal that it gives
   refusal : Store → Call → ℕ → Named → Case
+  -- on this store, a call and the values that it answers
+  result : Store → Call → List ℕ → Case
 
-unfoldable pub holds : Store → (s state version : ℕ) → Cell → Bool
-holds S s st version c =
-    both (sameList (recordAt (S .records) s) (recordOf st version))
-    (sameList (block one (S .pool) s) (encoded one c s version))
+-- the block and the record of which a fact speaks
+unfoldable pub blockIn : Fact → List ℕ
+blockIn (leaf s st version items) = encoded one (record { height = 0; items = items }) s version
+blockIn (inner s st version height items) = encoded one (record { height = height; items = items }) s version
+blockIn (free s version) = replicate 64 0
+blockIn (whole pool records) = pool
+
+unfoldable pub lineIn : Fact → List ℕ
+lineIn (leaf s st version items) = recordOf st version
+lineIn (inner s st version height items) = recordOf st version
+lineIn (free s version) = recordOf 0 version
+lineIn (whole pool records) = records
+
+-- slot s has that block and that record
+unfoldable pub holds : Store → (s : ℕ) → Fact → Bool
+holds S s fact =
+    both (sameList (recordAt (S .records) s) (lineIn fact)) (sameList (block one (S .pool) s) (blockIn fact))
 
 unfoldable pub true-of : Store → Fact → Bool
-true-of S (leaf s st version items) = holds S s st version (record { height = 0; items = items })
-true-of S (inner s st version height items) = holds S s st version (record { height = height; items = items })
-true-of S (free s version) =
-    both (sameList (recordAt (S .records) s) (recordOf 0 version)) (zeros (block one (S .pool) s))
+true-of S (leaf s st version items) = holds S s (leaf s st version items)
+true-of S (inner s st version height items) = holds S s (inner s st version height items)
+true-of S (free s version) = holds S s (free s version)
 true-of S (whole pool records) = both (sameList (S .pool) pool) (sameList (S .records) records)
 
 unfoldable pub sameSaid : Said → Said → Bool
@@ -76,6 +90,7 @@ unfoldable pub right : Case → Bool
 right (blocks len n) = eqb (total (one .fan) (leavesFor (one .leaf) len)) n
 right (script N steps) = played (wiped one N) steps
 right (refusal S call n s) = sameSaid (says one S call) (refuses (refusalOf n s))
+right (result S call values) = sameSaid (says one S call) (yields values)
 
 -- the cases marked P, and the blob created in a wiped one-slot pool
 unfoldable pub cases : List Case
@@ -113,10 +128,14 @@ cases =
     ∷ [])
     ∷ []
 
+-- the bytes of a full leaf, zeros here
+unfoldable pub full : List ℕ
+full = replicate 48 0
+
 -- A resize worked out, to be followed with a pencil: in 17 slots one blob gets 576 bytes, then 577, then 625, and then 576 again. A fact names a slot,
 -- its state (2 root, 1 part), its version, of an inner block its height, and the bytes or children. Slots 1 to 12 stay the same leaves throughout:
 unfoldable pub twelve : List Fact
-twelve = map (λ s. leaf s 1 1 (replicate 48 0)) (range 1 12)
+twelve = map (λ s. leaf s 1 1 full) (range 1 12)
 
 unfoldable pub worked : List Case
 worked =
@@ -150,7 +169,7 @@ worked =
       facts = inner 0 2 3 2 (13 ∷ 14 ∷ [])
           ∷ inner 13 1 1 1 (1 ∷ 2 ∷ 3 ∷ 4 ∷ 5 ∷ 6 ∷ 7 ∷ 8 ∷ 9 ∷ 10 ∷ 11 ∷ 12 ∷ [])
           ∷ inner 14 1 2 1 (15 ∷ 16 ∷ [])
-          ∷ leaf 15 1 2 (replicate 48 0)
+          ∷ leaf 15 1 2 full
           ∷ leaf 16 1 1 (0 ∷ [])
           ∷ twelve;
     }
@@ -205,6 +224,53 @@ refusals =
     ∷ refusal (beside (empty (2 ^ 64 - 1)) (recordOf 2 (2 ^ 64 - 1))) (write 0 0 []) 12 Nowhere
     ∷ []
 
-pub cases-hold : all right (cases ++ (worked ++ refusals)) ≡ true
-unfolding cases worked twelve refusals right played sameSaid true-of holds empty two beside one pick both part pasted joined range filter all ofLast mapLast only sameList zeros number bytes padded fours sameCell itemBytes header blockBytes encoded block heightOf countOf ownSlot versionOf dataOf childrenOf recordWith recordOf recordAt stateOf recordedOf state recorded soundRecord lastVersion usableSlot slotOf atSlot content leaves cells rootOf contentOf leavesOf cellsOf slotsOf lengthOf held up leavesFor totalWithin total leastCount mostCount refusalOf at nowhere must first flaw used formed blockCheck isRoot linkCheck andThen passing isEmpty oneVisit visitRow visit fromRoot roots closingCheck closing poolCheck put puts changedBy freed renewed changed changes lowest chain onLast roomy hang raised addLeaf addLeaves lastLeaf share shares lastBytes longer keepRow keep lower shorter resized refuseIf afterCheck slotsIn sized refuseBadRecord opened withBlob usable rooted changing refuseWorn refuseFull become createOn createIn newBlocks resizeOn resizeIn createCall resizeCall after freeRecords wiped says createdSaid createAnswer auditSaid auditAnswer changedSaid changeAnswer lengthSaid lengthAnswer saidWith finishedSaid finishAnswer readOut perform reading blobCheck lengthOn lengthIn refusePast readOn readIn live auditOn auditIn writeOn writeIn lengthCall readCall auditCall writeCall along refill refilled slotNumber
+-- the store of which such facts, slot by slot, say all
+unfoldable pub holding : List Fact → Store
+holding facts = record { pool = joined (map blockIn facts); records = joined (map lineIn facts) }
+
+-- a root in slot 0 whose row names slot 1 twice, and what is said of slot 1
+unfoldable pub twice : Fact → Store
+twice fact = holding (inner 0 2 1 1 (1 ∷ 1 ∷ []) ∷ fact ∷ [])
+
+-- two blobs of 49 bytes, roots 0 and 1, that share both their leaves
+unfoldable pub sharing : Store
+sharing =
+    holding (inner 0 2 1 1 (2 ∷ 3 ∷ []) ∷ inner 1 2 1 1 (2 ∷ 3 ∷ []) ∷ leaf 2 1 1 full ∷ leaf 3 1 1 (0 ∷ []) ∷ [])
+
+-- Check 1, which a child slot must pass: 8 names the parent, 9 the child.
+unfoldable pub links : List Case
+links =
+    -- no slot of the pool; the parent is a part here, so that it is not the root that is named
+    refusal (holding (inner 0 2 1 2 (1 ∷ 1 ∷ []) ∷ inner 1 1 1 1 (replicate 12 2) ∷ [])) (tellLength 0) 8 (Slot 1)
+    -- a root
+    ∷ refusal (twice (leaf 1 2 1 full)) (tellLength 0) 8 (Slot 0)
+    -- already visited, when the row names it again
+    ∷ refusal (twice (leaf 1 1 1 full)) (tellLength 0) 8 (Slot 0)
+    -- free
+    ∷ refusal (twice (free 1 1)) (tellLength 0) 9 (Slot 1)
+    -- shared parts: each blob passes its own check, and the pool check names the parent in the blob with the higher root
+    ∷ result sharing (tellLength 0) (49 ∷ [])
+    ∷ result sharing (tellLength 1) (49 ∷ [])
+    ∷ refusal sharing audit 8 (Slot 1)
+    ∷ []
+
+-- the empty blob of slot 0 at this version, beside a free slot at that one
+unfoldable pub versions : (version other : ℕ) → Store
+versions version other = holding (leaf 0 2 version [] ∷ free 1 other ∷ [])
+
+-- The last version: 12 comes before 10 and 11, and a free slot that has it is not usable.
+unfoldable pub worn : List Case
+worn =
+    -- a write past the end of a worn blob
+    refusal (versions lastVersion 0) (write 0 1 (7 ∷ [])) 12 Nowhere
+    -- two new blocks for a worn blob, one free slot
+    ∷ refusal (versions lastVersion 0) (resize 0 49) 12 Nowhere
+    -- no free slot but a worn one
+    ∷ refusal (versions 1 lastVersion) create 11 Nowhere
+    -- one version before the last
+    ∷ result (versions 1 (lastVersion - 1)) create (1 ∷ [])
+    ∷ []
+
+pub cases-hold : all right (joined (cases ∷ worked ∷ refusals ∷ links ∷ worn ∷ [])) ≡ true
+unfolding cases worked twelve refusals links worn blockIn lineIn holding full twice sharing versions right played sameSaid true-of holds empty two beside one pick both part pasted joined range filter all ofLast mapLast only sameList zeros number bytes padded fours sameCell itemBytes header blockBytes encoded block heightOf countOf ownSlot versionOf dataOf childrenOf recordWith recordOf recordAt stateOf recordedOf state recorded soundRecord lastVersion usableSlot slotOf atSlot content leaves cells rootOf contentOf leavesOf cellsOf slotsOf lengthOf held up leavesFor totalWithin total leastCount mostCount refusalOf at nowhere must first flaw used formed blockCheck isRoot linkCheck andThen passing isEmpty oneVisit visitRow visit fromRoot roots closingCheck closing poolCheck put puts changedBy freed renewed changed changes lowest chain onLast roomy hang raised addLeaf addLeaves lastLeaf share shares lastBytes longer keepRow keep lower shorter resized refuseIf afterCheck slotsIn sized refuseBadRecord opened withBlob usable rooted changing refuseWorn refuseFull become createOn createIn newBlocks resizeOn resizeIn createCall resizeCall after freeRecords wiped says createdSaid createAnswer auditSaid auditAnswer changedSaid changeAnswer lengthSaid lengthAnswer saidWith finishedSaid finishAnswer readOut perform reading blobCheck lengthOn lengthIn refusePast readOn readIn live auditOn auditIn writeOn writeIn lengthCall readCall auditCall writeCall along refill refilled slotNumber
 cases-hold = refl
