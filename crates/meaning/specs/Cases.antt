@@ -132,8 +132,8 @@ cases =
 unfoldable pub full : List ℕ
 full = replicate 48 0
 
--- A resize worked out, to be followed with a pencil: in 17 slots one blob gets 576 bytes, then 577, then 625, and then 576 again. A fact names a slot,
--- its state (2 root, 1 part), its version, of an inner block its height, and the bytes or children. Slots 1 to 12 stay the same leaves throughout:
+-- A resize worked out, to be followed with a pencil: in 17 slots one blob gets 576 bytes, then 577, then 625, and then 48. A fact names a slot,
+-- its state (2 root, 1 part), its version, of an inner block its height, and the bytes or children. Slots 1 to 12 are the same leaves until the last step:
 unfoldable pub twelve : List Fact
 twelve = map (λ s. leaf s 1 1 full) (range 1 12)
 
@@ -173,12 +173,13 @@ worked =
           ∷ leaf 16 1 1 (0 ∷ [])
           ∷ twelve;
     }
-    -- 576 bytes again: the leaves 16 and 15 go; slot 14 has no child left and goes; the root has one child only, 13, so it takes over height, count and
-    -- children of 13, and 13 goes. The four slots are free and keep their versions.
+    -- 48 bytes are one leaf. The leaves 16, 15 and 12 down to 2 go; slot 14 has no child left and goes. The root has one child only, 13: it takes over
+    -- height, count and children of 13, and 13 goes. It still has one child only, 1: it takes over height, count and bytes of 1, and 1 goes. The slots
+    -- are free and keep their versions.
     ∷ record {
-      call = resize 0 576;
+      call = resize 0 48;
       answer = [];
-      facts = inner 0 2 4 1 (1 ∷ 2 ∷ 3 ∷ 4 ∷ 5 ∷ 6 ∷ 7 ∷ 8 ∷ 9 ∷ 10 ∷ 11 ∷ 12 ∷ []) ∷ free 13 1 ∷ free 14 2 ∷ free 15 2 ∷ free 16 1 ∷ twelve;
+      facts = leaf 0 2 4 full ∷ free 13 1 ∷ free 14 2 ∷ free 15 2 ∷ free 16 1 ∷ map (λ s. free s 1) (range 1 12);
     }
     ∷ [])
     ∷ []
