@@ -5,13 +5,14 @@ pub mod place;
 use meaning::Edition;
 use meaning::Leaf;
 ghost use mathlib.Core.Path.{_≡_};
+ghost use Prim.Native.Nat.{_+_};
 ghost use lib.ListN.{length, replicate};
 ghost use Rattle.meaning.specs.Edition.{Proper};
 ghost use Rattle.meaning.specs.Calls.{showCall};
-ghost use Rattle.meaning.specs.Answers.{shownPart, shownNumber, shownSlot};
+ghost use Rattle.meaning.specs.Answers.{shownAt, shownPart, shownNumber, shownSlot};
 
-// The whole call: a leaf's data bytes as they lie in the pool. Number and slot are those of a refusal, which shows an empty part; 0 and no slot
-// otherwise.
+// The whole call: a leaf's data bytes as they lie in the pool, at their own place there and not those of another leaf with equal bytes. Number
+// and slot are those of a refusal, which shows an empty part at the pool's start; 0 and no slot otherwise.
 pub fn show_call<'a>(
     e: Edition,
     pool: &'a [u8],
@@ -25,6 +26,7 @@ pub fn show_call<'a>(
 ) -> &'a [u8]
     requires { ⌜ Proper e ⌝ }
     requires { ⌜ (now seen ≡ replicate (e .most) 0) × (length (now row) ≡ e .most) ⌝ }
+    ensures { λ r. ⌜ (r .ptr .0 ≡ pool .entry .ptr .0) × (r .ptr .1 ≡ pool .entry .ptr .1 + shownAt e (showCall e (now (pool .entry)) (now (records .entry)) root i)) ⌝ }
     ensures { λ r. ⌜ now r ≡ shownPart e (now (pool .entry)) (showCall e (now (pool .entry)) (now (records .entry)) root i) ⌝ }
     ensures { λ _. ⌜ now (number .exit) ≡ shownNumber (showCall e (now (pool .entry)) (now (records .entry)) root i) ⌝ }
     ensures { λ _. ⌜ now (slot .exit) ≡ shownSlot (showCall e (now (pool .entry)) (now (records .entry)) root i) ⌝ }

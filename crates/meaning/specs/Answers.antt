@@ -57,6 +57,11 @@ unfoldable pub readOut : Outcome (List ℕ) → List ℕ → List ℕ
 readOut (refused r) out = out
 readOut (done d cs) out = d
 
+-- where in the pool show's part starts: at the leaf's data bytes; the empty part of a refusal at the pool's first byte
+unfoldable pub shownAt : Edition → Outcome (ℕ × ℕ) → ℕ
+shownAt e (refused r) = 0
+shownAt e (done v cs) = e .size * v .0 + 16
+
 -- show's part of the pool: the leaf's data bytes as they lie there; a refusal shows an empty part
 unfoldable pub shownPart : Edition → (P : List ℕ) → Outcome (ℕ × ℕ) → List ℕ
 shownPart e P (refused r) = []

@@ -5,10 +5,11 @@ use meaning::Finished;
 use meaning::Leaf;
 use meaning::Length;
 ghost use mathlib.Core.Path.{_≡_};
+ghost use Prim.Native.Nat.{_+_};
 ghost use lib.ListN.{length};
 ghost use Rattle.meaning.specs.Edition.{one};
 ghost use Rattle.meaning.specs.Calls.{lengthCall, readCall, showCall, auditCall};
-ghost use Rattle.meaning.specs.Answers.{lengthAnswer, auditAnswer, leafAnswer, Reads, shownPart, shownNumber, shownSlot};
+ghost use Rattle.meaning.specs.Answers.{lengthAnswer, auditAnswer, leafAnswer, Reads, shownAt, shownPart, shownNumber, shownSlot};
 ghost use Rattle.call_show.specs.place.{Lies};
 
 // The length of a blob.
@@ -42,7 +43,8 @@ pub fn find_leaf(pool: &[u8], records: &[u8], root: u64, leaf: u64) -> Leaf
     find::find_leaf_call(e, pool, records, &mut seen, &mut row, root, leaf)
 }
 
-// A leaf's data bytes as they lie in the pool. Number and slot are those of a refusal, which shows an empty part; 0 and no slot otherwise.
+// A leaf's data bytes as they lie in the pool, at their own place there. A pointer is a block of memory and an offset in it: the part lies in the
+// pool's block, so many bytes after the pool's start. Number and slot are those of a refusal, which shows an empty part; 0 and no slot otherwise.
 pub fn show<'a>(
     pool: &'a [u8],
     records: &[u8],
@@ -51,6 +53,7 @@ pub fn show<'a>(
     number: &mut u64,
     slot: &mut u64,
 ) -> &'a [u8]
+    ensures { λ r. ⌜ (r .ptr .0 ≡ pool .entry .ptr .0) × (r .ptr .1 ≡ pool .entry .ptr .1 + shownAt one (showCall one (now (pool .entry)) (now (records .entry)) root leaf)) ⌝ }
     ensures { λ r. ⌜ now r ≡ shownPart one (now (pool .entry)) (showCall one (now (pool .entry)) (now (records .entry)) root leaf) ⌝ }
     ensures { λ _. ⌜ now (number .exit) ≡ shownNumber (showCall one (now (pool .entry)) (now (records .entry)) root leaf) ⌝ }
     ensures { λ _. ⌜ now (slot .exit) ≡ shownSlot (showCall one (now (pool .entry)) (now (records .entry)) root leaf) ⌝ }

@@ -1,5 +1,5 @@
--- A place becomes a part of the pool, a refusal an empty part and its two numbers.
-use Rattle.call_show.proofs.Handing.{placed-within, placed-fits, shown-part, shown-nothing-refused, shown-nowhere, shown-empty, shown-number, shown-slot}
+-- A place becomes the part of the pool that starts there, a refusal an empty part at the pool's start and its two numbers.
+use Rattle.call_show.proofs.Handing.{placed-within, placed-fits, shown-at, shown-part, shown-nothing-refused, shown-nowhere, shown-at-start, shown-empty, shown-number, shown-slot}
 use borrow.Author.Needs.{needs}
 use Rattle.call_show.proofs.show_call.Statement.{statement}
 use Rattle.call_show.proofs.show_call.Tie as tie
@@ -44,7 +44,7 @@ same-length-2 : tie.Need-same-length-2
 same-length-2 c = search needs
 
 returns : tie.Need-returns
-returns c = (search shown-part, (search shown-nothing-refused, search shown-nowhere))
+returns c = ((search needs, search shown-at), (search shown-part, (search shown-nothing-refused, search shown-nowhere)))
 
 same-length-3 : tie.Need-same-length-3
 same-length-3 c = search needs
@@ -53,7 +53,7 @@ same-length-4 : tie.Need-same-length-4
 same-length-4 c = search needs
 
 returns-2 : tie.Need-returns-2
-returns-2 c = (search shown-empty, (search shown-number, search shown-slot))
+returns-2 c = ((search needs, search shown-at-start), (search shown-empty, (search shown-number, search shown-slot)))
 
 pub show-call-spec : {M : Type 1} → statement M
 show-call-spec =

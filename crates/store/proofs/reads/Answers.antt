@@ -1,10 +1,10 @@
 -- The reading calls' answers in edition one.
 use mathlib.Core.Path.{_≡_, subst}
 use mathlib.Core.List.{List}
-use Prim.Native.Nat.{ℕ}
+use Prim.Native.Nat.{ℕ, _+_}
 use Rattle.meaning.specs.Edition.{one}
 use Rattle.meaning.specs.Calls.{lengthCall, readCall, showCall, auditCall}
-use Rattle.meaning.specs.Answers.{lengthAnswer, auditAnswer, leafAnswer, Reads, shownPart, shownNumber, shownSlot}
+use Rattle.meaning.specs.Answers.{lengthAnswer, auditAnswer, leafAnswer, Reads, shownAt, shownPart, shownNumber, shownSlot}
 use Rattle.meaning.specs.declared.Edition.{Edition}
 use Rattle.meaning.specs.declared.Length.{Length}
 use Rattle.meaning.specs.declared.Audit.{Audit}
@@ -22,6 +22,9 @@ module _ (e : Edition) (ee : e ≡ one) (P R : List ℕ) where
 
   pub leaf-one : (r i : ℕ) (a : Leaf) → a ≡ leafAnswer e (showCall e P R r i) → a ≡ leafAnswer one (showCall one P R r i)
   leaf-one r i a h = subst (λ (y : Edition). a ≡ leafAnswer y (showCall y P R r i)) ee h
+
+  pub at-one : (r i p q : ℕ) → p ≡ q + shownAt e (showCall e P R r i) → p ≡ q + shownAt one (showCall one P R r i)
+  at-one r i p q h = subst (λ (y : Edition). p ≡ q + shownAt y (showCall y P R r i)) ee h
 
   pub part-one : (r i : ℕ) (a : List ℕ) → a ≡ shownPart e P (showCall e P R r i) → a ≡ shownPart one P (showCall one P R r i)
   part-one r i a h = subst (λ (y : Edition). a ≡ shownPart y P (showCall y P R r i)) ee h

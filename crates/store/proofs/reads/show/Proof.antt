@@ -1,6 +1,6 @@
 -- Show of any edition, in edition one.
 use Rattle.store.proofs.reads.Opening.{one-here, flags-here, long-here}
-use Rattle.store.proofs.reads.Answers.{part-one, number-one, slot-one}
+use Rattle.store.proofs.reads.Answers.{at-one, part-one, number-one, slot-one}
 use borrow.Author.Needs.{needs}
 use Rattle.store.proofs.reads.show.Statement.{statement}
 use Rattle.store.proofs.reads.show.Tie as tie
@@ -18,7 +18,7 @@ show-call-requires : tie.Need-show-call-requires
 show-call-requires c κs = (search one-here, (search flags-here, search long-here))
 
 returns : tie.Need-returns
-returns c = (search part-one, (search number-one, search slot-one))
+returns c = ((search needs, search at-one), (search part-one, (search number-one, search slot-one)))
 
 pub show-spec : {M : Type 1} → statement M
 show-spec =
