@@ -1,6 +1,6 @@
 -- The right edge in numbers, as code computes them: what each definition is from one height lower, and bounds on it.
 -- Values come with their equations, `w ≡ fan ^ (h - 1)`, as code has them.
-use mathlib.Core.Path.{_≡_, refl, ap}
+use mathlib.Core.Path.{_≡_, refl, ap, sym}
 use Prim.Native.Nat.{ℕ, zero, suc, _+_, _-_, _*_, _/_, _%_, _^_, _≤_}
 use native.Mathlib.Nat.{pow-succ', mul-le-mul-right, mod-lt}
 use native.Mathlib.Omega.{arith}
@@ -20,7 +20,22 @@ pub last-fits : (fan h n : ℕ) → 1 ≤ fan → lastChildren fan h n ≤ fan
 unfolding lastChildren
 last-fits fan h n some = omega (arith, mod-lt ((n - 1) / fan ^ h) some)
 
--- room on the right edge, from one height lower
+-- What adds up along the right edge, height by height, is f: beside the last child of each block come the places left, each with its full share.
+module _ (fan n : ℕ) (f full : ℕ → ℕ) (step : (h : ℕ) → f (suc h) ≡ f h + (fan - lastChildren fan h n) * full h) where
+  -- from one height lower
+  edge-back : (h r c w : ℕ) → (h ≡ 0 → ⊥) → r ≡ f (h - 1) → c ≡ lastChildren fan (h - 1) n → w ≡ full (h - 1) → r + (fan - c) * w ≡ f h
+  edge-back zero r c w tall at last wide = absurd (tall refl)
+  edge-back (suc h) r c w tall at last wide = let z : suc h - 1 ≡ h = omega arith in rw (at, last, wide, z) (sym (step h))
+
+  -- it is within what a full tree has
+  edge-fits : 1 ≤ fan → f 0 ≡ 0 → ((h : ℕ) → fan * full h ≤ full (suc h)) → (h : ℕ) → f h ≤ full h
+  edge-fits some none grows zero = omega arith
+  edge-fits some none grows (suc h) =
+      let few : fan - lastChildren fan h n ≤ fan - 1 = omega (arith, last-some fan h n) in
+      let z : fan ≡ suc (fan - 1) = omega arith in
+      omega (arith, edge-fits some none grows h, step h, mul-le-mul-right (full h) few, grows h, ap (λ (x : ℕ). x * full h) z)
+
+-- room for leaves: a subtree of height h has fan ^ h of them
 pub room-none : (fan h n : ℕ) → h ≡ 0 → 0 ≡ room fan h n
 unfolding room
 room-none fan h n is = rw is refl
@@ -28,19 +43,13 @@ room-none fan h n is = rw is refl
 pub room-back : (fan h n r c w : ℕ) → (h ≡ 0 → ⊥) → r ≡ room fan (h - 1) n → c ≡ lastChildren fan (h - 1) n → w ≡ fan ^ (h - 1)
     → r + (fan - c) * w ≡ room fan h n
 unfolding room
-room-back fan zero n r c w tall at last wide = absurd (tall refl)
-room-back fan (suc h) n r c w tall at last wide = let z : suc h - 1 ≡ h = omega arith in rw (at, last, wide, z) refl
+room-back fan h n = edge-back fan n (λ g. room fan g n) (λ g. fan ^ g) (λ g. refl) h
 
--- it is within a full tree
 pub room-fits : (fan h n : ℕ) → 1 ≤ fan → room fan h n ≤ fan ^ h
 unfolding room
-room-fits fan zero n some = omega arith
-room-fits fan (suc h) n some =
-    let few : fan - lastChildren fan h n ≤ fan - 1 = omega (arith, last-some fan h n) in
-    let z : fan ≡ suc (fan - 1) = omega arith in
-    omega (arith, room-fits fan h n some, mul-le-mul-right (fan ^ h) few, pow-succ' fan h, ap (λ (x : ℕ). x * fan ^ h) z)
+room-fits fan h n some = edge-fits fan n (λ g. room fan g n) (λ g. fan ^ g) (λ g. refl) some refl (λ g. omega (arith, pow-succ' fan g)) h
 
--- its blocks, from one height lower
+-- the blocks of those leaves: a subtree of height h has bulk h of them
 pub space-none : (fan h n : ℕ) → h ≡ 0 → 0 ≡ space fan h n
 unfolding space
 space-none fan h n is = rw is refl
@@ -48,14 +57,8 @@ space-none fan h n is = rw is refl
 pub space-back : (fan h n s c b : ℕ) → (h ≡ 0 → ⊥) → s ≡ space fan (h - 1) n → c ≡ lastChildren fan (h - 1) n → b ≡ bulk fan (h - 1)
     → s + (fan - c) * b ≡ space fan h n
 unfolding space
-space-back fan zero n s c b tall at last whole = absurd (tall refl)
-space-back fan (suc h) n s c b tall at last whole = let z : suc h - 1 ≡ h = omega arith in rw (at, last, whole, z) refl
+space-back fan h n = edge-back fan n (λ g. space fan g n) (bulk fan) (λ g. refl) h
 
--- they are within a full tree's
 pub space-fits : (fan h n : ℕ) → 1 ≤ fan → space fan h n ≤ bulk fan h
 unfolding space bulk
-space-fits fan zero n some = omega arith
-space-fits fan (suc h) n some =
-    let few : fan - lastChildren fan h n ≤ fan - 1 = omega (arith, last-some fan h n) in
-    let z : fan ≡ suc (fan - 1) = omega arith in
-    omega (arith, space-fits fan h n some, mul-le-mul-right (bulk fan h) few, ap (λ (x : ℕ). x * bulk fan h) z)
+space-fits fan h n some = edge-fits fan n (λ g. space fan g n) (bulk fan) (λ g. refl) some refl (λ g. omega arith) h
