@@ -12,7 +12,7 @@ use Rattle.meaning.specs.Bytes.{block, heightOf, countOf, childrenOf}
 use Rattle.meaning.specs.Shape.{mostCount}
 use Rattle.meaning.specs.Tree.{leavesOf}
 use Rattle.check_blob.proofs.visit.VisitAsDefined.{slot-fits}
-use Rattle.laws_resize.specs.growth.Room.{Every}
+use Rattle.laws.proofs.Every.{Every}
 use Rattle.check_survey.specs.sites.Spelt.{Fit, blobAt, Inside, treeLeaves, rowLeaves}
 use Rattle.check_survey.specs.sites.Marks.{Ready, BlockStart, RowStart, SitesStart}
 use Rattle.check_blob.proofs.notes.WalkAsDefined.{fours-first}

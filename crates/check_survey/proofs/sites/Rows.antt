@@ -15,10 +15,9 @@ use Rattle.meaning.specs.Tree.{slotOf, leaves, slotsOf}
 use Rattle.laws.proofs.Inversions.{by-test}
 use Rattle.laws.proofs.Codec.{rowOf, row-count}
 use Rattle.laws.proofs.Walked.{block-room}
-use Rattle.laws_resize.specs.growth.Room.{Every}
+use Rattle.laws.proofs.Every.{Every, every-append}
 use Rattle.laws_resize.specs.growth.Sites.{Site, counting, sites, sitesOf, Sited, absent, at, sited, Lacks, Once}
 use Rattle.laws_resize.proofs.growth.Sites.{site-slots}
-use Rattle.laws_resize.proofs.growth.Walks.{every-append}
 use Rattle.check_survey.specs.sites.Spelt.{Fit, treeAt, blobAt, Inside, siteAt}
 use Rattle.check_survey.specs.sites.Marks.{puts, tall, begin, Marked}
 use Rattle.check_survey.specs.sites.Known.{Sites}

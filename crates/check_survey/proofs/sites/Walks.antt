@@ -25,7 +25,7 @@ use Rattle.laws.proofs.Totals.{total-ge, total-more, up-gt}
 use Rattle.laws.proofs.Heights.{height-least}
 use Rattle.laws.proofs.Shapes.{shaped-height, shaped-blocks}
 use Rattle.laws.proofs.Roots.{walk-root, roots-root, roots-other}
-use Rattle.laws_resize.specs.growth.Room.{Every}
+use Rattle.laws.proofs.Every.{Every}
 use Rattle.laws_resize.proofs.growth.Pools.{range-below}
 use Rattle.check_survey.specs.sites.Spelt.{treeAt, blobAt, Inside}
 use Rattle.check_survey.specs.sites.Marks.{SitesStart}

@@ -7,7 +7,7 @@ use Rattle.meaning.specs.declared.Edition.{Edition}
 use Rattle.meaning.specs.Lists.{fours}
 use Rattle.meaning.specs.Bytes.{block, heightOf}
 use Rattle.meaning.specs.Tree.{leavesOf}
-use Rattle.laws_resize.specs.growth.Room.{Every}
+use Rattle.laws.proofs.Every.{Every}
 use Rattle.laws_resize.specs.growth.Sites.{Site}
 use Rattle.check_survey.specs.sites.Spelt.{blobAt, Inside, treeLeaves, rowLeaves}
 

@@ -10,7 +10,7 @@ use Rattle.meaning.specs.Bytes.{block, heightOf, countOf, dataOf, childrenOf}
 use Rattle.meaning.specs.Tree.{Tree, Blob, leaves}
 use Rattle.meaning.specs.Shape.{mostCount}
 use Rattle.laws.proofs.Codec.{rowOf}
-use Rattle.laws_resize.specs.growth.Room.{Every}
+use Rattle.laws.proofs.Every.{Every}
 use Rattle.laws_resize.specs.growth.Sites.{Site, counting, sites}
 
 -- what a block that was visited as one of height h is: in the pool, of that height, and not too full

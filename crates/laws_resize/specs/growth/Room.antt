@@ -4,7 +4,7 @@ use mathlib.Core.List.{List, [], _∷_, _++_}
 use Prim.Native.Nat.{ℕ, zero, suc, _+_, _-_, _*_, _^_, _<_}
 use lib.ListN.{length}
 use Rattle.meaning.specs.Tree.{Tree, leaves}
-pub use Rattle.laws.proofs.Every.{Every}
+use Rattle.laws.proofs.Every.{Every}
 
 -- how many leaves a tree has
 abbrev pub count : (h : ℕ) → Tree h → ℕ
