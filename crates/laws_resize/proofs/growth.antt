@@ -2,7 +2,7 @@
 -- (walk-standing, pool-standing: so it is of every blob that a walk found, and that a pool check lists):
 --   Resized: write-slot, resize-slot (with longer-slot, shorter-slot): held (cellsOf new) s ≡ writtenHeld .. s, resizedHeld .. s;
 --            write-changes, resize-changes: the call's list of changes, by those functions;
---   Places:  root-site, child-site, left-site, left-step: where blocks stand, from the root down;
+--   Places:  root-site, left-site, left-step: where blocks stand, from the root down;
 --   Changes: a slot's change, case by case;
 --   Steps:   each form case by case, for a program's branches and turns.
 -- Sites, Written, Cut, Shorter: write and shorter.

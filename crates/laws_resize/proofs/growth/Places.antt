@@ -1,6 +1,5 @@
--- Where the blocks of a shaped blob stand, from the root down: the root begins with leaf 0, and the child c of a block of height h + 1 that begins
--- with leaf
--- i begins with leaf i + c * fan ^ h. The left edge is what first children lead to.
+-- Where the blocks of a shaped blob stand, from the root down: the root begins with leaf 0, and so does each block of the left edge, which is what
+-- first children lead to.
 use mathlib.Core.Path.{_≡_, refl, sym, ap, ap₂, _∙_}
 use mathlib.Core.Logic.{_⊎_, inl, inr}
 use mathlib.Core.Bool.{Bool, true, false}

@@ -21,7 +21,7 @@ use Rattle.laws_resize.specs.growth.Forms.{grownRow}
 use Rattle.laws.proofs.Codec.{padded-fits}
 use Rattle.meaning.specs.Resize.{share}
 
--- slots taken at equal steps: so many, and each its steps further
+-- slots taken at equal steps are so many
 pub every-length : (free : List ℕ) (size c k : ℕ) → length (every free size c k) ≡ c
 unfolding every
 every-length free size zero k = refl
@@ -68,7 +68,6 @@ module _ (fan : ℕ) where
 
 module _ (fan m : ℕ) (bytes : ℕ → ℕ) (free : List ℕ) where
   -- the root rises while a leaf is left
-
   pub root-rises : (k h j b : ℕ) (top : Cell) → j < m → rootCell fan m bytes free (suc k) h j b top
       ≡ rootCell fan m bytes free k (suc h) (j + (fan - 1) * fan ^ h) (suc b + (fan - 1) * bulk fan h) (above fan m bytes free h j b)
   unfolding rootCell pick

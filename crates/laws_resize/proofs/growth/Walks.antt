@@ -26,12 +26,12 @@ use Rattle.laws_resize.specs.growth.Sites.{Lacks, Once}
 use Rattle.laws.proofs.Every.{Every, every-append, every-weaker}
 use Rattle.laws_resize.proofs.growth.Sites.{lacks-held}
 
--- each is another than s
+-- if each is another than s, s is lacking
 others-lack : (l : List ℕ) (s : ℕ) → Every (λ x. x ≡ s → ⊥) l → Lacks l s
 others-lack [] s a = tt
 others-lack (x ∷ l) s a = (a .0, others-lack l s (a .1))
 
--- and of two lists
+-- lacking in two lists
 lacks-append : (l m : List ℕ) (s : ℕ) → Lacks l s → Lacks m s → Lacks (l ++ m) s
 lacks-append [] m s a b = b
 lacks-append (x ∷ l) m s a b = (a .0, lacks-append l m s (a .1) b)

@@ -1,5 +1,4 @@
--- What the cells of a blob hold: heights up to the blob's, child slots that are the blob's own, no more bytes or children than the most, and
--- bytes of the content. So each cell of a shaped blob, as resize and write leave it, is written as a block from which it is read back.
+-- What the cells of a blob hold: heights up to the blob's, child slots that are the blob's own, and no more bytes or children than the most.
 use mathlib.Core.Path.{_≡_, refl}
 use mathlib.Core.Logic.{_⊎_, inl, inr}
 use mathlib.Core.Bool.{Bool, true, false}

@@ -1,5 +1,5 @@
 -- How heights, leaf counts and block totals bound each other: what keeps the numbers of a resize small, and in order. A longer blob has no fewer
--- leaves, no fewer blocks and no smaller height; a tree of the least height has no more blocks than a full one, and a full one at most fan times
+-- leaves and no smaller height; a tree of the least height has no more blocks than a full one, and a full one at most fan times
 -- as many leaves.
 use Prim.Native.Nat.{ℕ, zero, suc, _+_, _*_, _^_, _≤_, _<_}
 use native.Mathlib.Nat.{pow-zero, pow-succ', mul-le-mul-left, mul-le-mul-right}

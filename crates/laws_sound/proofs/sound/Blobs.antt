@@ -1,6 +1,5 @@
 -- Blobs that lie in a pool: not too high, with a root's record at the root and part's records below it, of the right shape, each of whose
--- blocks reads as its cell. The walk from a root finds such a blob, if it goes well, and goes well if there is one. A blob that is written
--- cell by cell lies so.
+-- blocks reads as its cell. The walk from a root finds such a blob, if it goes well, and goes well if there is one.
 use mathlib.Core.Path.{_≡_, refl, ap, _∙_, sym, subst}
 use mathlib.Core.Bool.{true}
 use mathlib.Core.List.{List·Memᴰ, List, map}
