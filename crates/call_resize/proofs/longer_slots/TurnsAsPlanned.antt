@@ -1,13 +1,13 @@
 -- The loop over the slots: a slot that is still ahead is as it was, so what is planned of it is what was planned at the start, and one more usable
 -- slot lies below the next one if this one is usable.
 use mathlib.Core.Path.{_≡_, refl, ap, _∙_, sym}
-use mathlib.Core.Bool.{Bool, true, false}
-use mathlib.Core.List.{List, [], _∷_}
+use mathlib.Core.Bool.{Bool}
+use mathlib.Core.List.{List}
 use mathlib.Core.Logic.{inl}
-use Prim.Native.Nat.{ℕ, zero, suc, _+_, _*_, _≤_, _<_}
-use native.Mathlib.Numerals.{add-one}
+use Prim.Native.Nat.{ℕ, _+_, _*_, _≤_, _<_}
+use native.Mathlib.Nat.{zero-add}
 use native.Mathlib.Omega.{arith}
-use lib.ListN.{length}
+use lib.ListN.{length, length-append}
 use Rattle.meaning.specs.declared.Edition.{Edition}
 use Rattle.meaning.specs.Lists.{pick, range, filter}
 use Rattle.meaning.specs.Bytes.{state, recorded, usableSlot}
@@ -20,6 +20,8 @@ use Rattle.plan_slot.specs.change.Turns.{Turning}
 use Rattle.plan_slot.proofs.change.SlotLoop.{block-left, record-left, turning-on}
 use Rattle.plan_slot.specs.renewal.{renewal}
 use Rattle.laws.proofs.Puts.{Single, pick-single, renewed-single}
+use Rattle.laws.proofs.Ranges.{range-append, filter-append}
+use Rattle.laws.proofs.Inversions.{by-test}
 use Rattle.plan_slot.proofs.renewal.DrawnIsChanged.{renewal-single}
 use Rattle.plan_longer.specs.declared.fresh.Growth.{Growth}
 use Rattle.plan_longer.specs.declared.towers.Tower.{Tower}
@@ -37,32 +39,17 @@ pub planned-puts : (w : ℕ) (f : Change → List ℕ) (cs ds : List Change) (l 
 planned-puts w f cs ds l l′ q p = p ∙ ap (λ (c : List Change). puts w f c l) q
 
 -- one more usable slot, or not
-picked : (t : Bool) (x : ℕ) (l : List ℕ) → length (pick t (x ∷ l) l) ≡ pick t 1 0 + length l
-unfolding pick
-picked true x l = omega arith
-picked false x l = omega arith
-
-filter-next : (p : ℕ → Bool) (from n : ℕ) → length (filter p (range from (suc n))) ≡ length (filter p (range from n)) + pick (p (from + n)) 1 0
-unfolding filter range
-filter-next p from zero =
-    let z : from + 0 ≡ from = omega arith in
-    picked (p from) from [] ∙ rw z (omega arith)
-filter-next p from (suc n) =
-    let z : from + suc n ≡ suc from + n = omega arith in
-    rw z
-    (omega (
-      arith,
-      picked (p from) from (filter p (range (suc from) (suc n))),
-      picked (p from) from (filter p (range (suc from) n)),
-      filter-next p (suc from) n,
-    ))
+one-kept : (R : List ℕ) (i : ℕ) → length (filter (usableSlot R) (range i 1)) ≡ pick (usableSlot R i) 1 0
+unfolding filter range pick
+one-kept R i = by-test (usableSlot R i) (λ t. rw t) (λ t. rw t)
 
 below-next : (R : List ℕ) (i : ℕ) → usableBelow R (i + 1) ≡ usableBelow R i + pick (usableSlot R i) 1 0
 unfolding usableBelow
-below-next R i = rw add-one (filter-next (usableSlot R) 0 i ∙ rest)
-  where
-    rest : length (filter (usableSlot R) (range 0 i)) + pick (usableSlot R (0 + i)) 1 0 ≡ length (filter (usableSlot R) (range 0 i)) + pick (usableSlot R i) 1 0
-    rest = let z : 0 + i ≡ i = omega arith in rw z
+below-next R i =
+    ap (λ (l : List ℕ). length (filter (usableSlot R) l)) (range-append 0 i 1)
+    ∙ ap length (filter-append (usableSlot R) (range 0 i) (range (0 + i) 1))
+    ∙ length-append (filter (usableSlot R) (range 0 i)) (filter (usableSlot R) (range (0 + i) 1))
+    ∙ rw (zero-add i, one-kept R i)
 
 -- at the start none lies below
 pub below-start : (R : List ℕ) → 0 ≡ usableBelow R 0
