@@ -1,9 +1,11 @@
 -- What one visit in code says of the definition's visit.
 use mathlib.Core.Path.{_≡_}
+use mathlib.Core.Bool.{Bool}
 use mathlib.Core.List.{List}
 use Prim.Native.Nat.{ℕ, _*_, _<_}
-use lib.ListN.{length}
-use Rattle.meaning.specs.Walk.{Found, fault, fine}
+use lib.ListN.{length, set}
+use Rattle.meaning.specs.Bytes.{block, recorded}
+use Rattle.meaning.specs.Walk.{Found, fault, fine, passing, blockCheck}
 use Rattle.meaning.specs.declared.Edition.{Edition}
 use Rattle.meaning.specs.declared.Role.{Role}
 use Rattle.meaning.specs.declared.Role.the-variants.{Root, Child}
@@ -25,3 +27,8 @@ Within n (Child p) s = Unit {0}
 unfoldable pub met : Checked → (b seen : List ℕ) → Found (List ℕ)
 met Passed b seen = fine b seen
 met (Faulty r) b seen = fault r
+
+-- checks 2 and 3 of a slot, and from there on it counts as visited
+unfoldable pub marked : (e : Edition) → (P R : List ℕ) → (h : ℕ) → (root edge : Bool) → (seen : List ℕ) → ℕ → Found (List ℕ)
+marked e P R h root edge seen s =
+    passing (blockCheck e h root edge (recorded R s) s (block e P s)) (fine (block e P s) (set seen s 1))

@@ -12,7 +12,7 @@ ghost use Rattle.meaning.specs.Lists.{part, number};
 ghost use Rattle.meaning.specs.Edition.{Proper};
 ghost use Rattle.meaning.specs.Bytes.{block, recorded};
 ghost use Rattle.meaning.specs.Walk.{blockCheck, isRoot, linkCheck, oneVisit};
-ghost use Rattle.check_blob.specs.visit.{Sized, Within, met};
+ghost use Rattle.check_blob.specs.visit.{Sized, Within, met, marked};
 
 // Check 1 of a slot that is visited in that role.
 pub fn check_link(records: &[u8], seen: &[u8], n: usize, role: Role, slot: usize) -> Checked
@@ -67,6 +67,30 @@ fn check_slot(
     base_block::check_block(e, h, root, edge, version, slot, b)
 }
 
+// Checks 2 and 3 of a slot, and the mark: all there is to a root's visit, since check 1 is for a child slot.
+pub fn check_and_mark(
+    e: Edition,
+    pool: &[u8],
+    records: &[u8],
+    seen: &mut [u8],
+    h: usize,
+    root: bool,
+    edge: bool,
+    slot: usize,
+) -> Checked
+    requires { ⌜ Proper e ⌝ }
+    requires { ⌜ (e .size * slot + e .size ≤ length (now pool)) × (12 * slot + 12 ≤ length (now records)) ⌝ }
+    requires { ⌜ slot < length (now seen) ⌝ }
+    ensures { λ r. ⌜ met r (block e (now (pool .entry)) slot) (now (seen .exit)) ≡ marked e (now (pool .entry)) (now (records .entry)) h root edge (now (seen .entry)) slot ⌝ }
+{
+    let checked = check_slot(e, pool, records, h, root, edge, slot);
+    let Checked::Passed = checked else {
+        return checked;
+    };
+    seen[slot] = 1;
+    Checked::Passed
+}
+
 // One visit of a slot, as a block of height h.
 pub fn visit(
     e: Edition,
@@ -88,12 +112,7 @@ pub fn visit(
     let Checked::Passed = link else {
         return link;
     };
-    let checked = check_slot(e, pool, records, h, is_root(role), edge, slot);
-    let Checked::Passed = checked else {
-        return checked;
-    };
-    seen[slot] = 1;
-    Checked::Passed
+    check_and_mark(e, pool, records, seen, h, is_root(role), edge, slot)
 }
 
 // A block's child number i.

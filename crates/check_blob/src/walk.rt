@@ -1,10 +1,9 @@
-// The walk from one root: the block visit, from the root's own height on.
+// The walk from one root, from its own height on.
 use crate::descent;
 use crate::notes::Walked;
 use base_slot::fields;
 use base_slot::slot;
 use meaning::Edition;
-use meaning::Role;
 ghost use mathlib.Core.Path.{_≡_};
 ghost use Prim.Native.Nat.{_≤_, _<_, min};
 ghost use lib.ListN.{length};
@@ -38,18 +37,5 @@ pub fn from_root(
     ensures { λ r. ⌜ met r (now (seen .exit)) (now (row .exit)) ≡ noteRoot e n (now (pool .entry)) (now (records .entry)) (now (seen .entry)) slot (now (row .entry)) ⌝ }
 {
     let h = root_height(e, slot::block_of(e, pool, slot));
-    descent::visit_block(
-        e,
-        pool,
-        records,
-        seen,
-        row,
-        n,
-        h,
-        Role::Root,
-        true,
-        slot,
-        0,
-        0,
-    )
+    descent::visit_root(e, pool, records, seen, row, n, h, slot)
 }

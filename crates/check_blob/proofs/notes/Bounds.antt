@@ -113,9 +113,10 @@ module _ (e : Edition) (n : ℕ) (P R seen : List ℕ) (p from left b k : ℕ) (
   pub parent-in-pool : e .size * p + e .size ≤ length P
   parent-in-pool = slot-fits (e .size) n p P (start .sized .pool) (start .inside)
 
-  pub child-start : (c : ℕ) → BlockStart e n P R seen (Child p) c b k
+  pub child-start : (role : Role) → role ≡ Child p → (c : ℕ) → BlockStart e n P R seen role c b k
   unfolding Within Fresh
-  child-start c = record { sized = start .sized; few = start .few; within = tt; counted = start .counted; fresh = tt }
+  child-start role er c =
+      rw er (record { sized = start .sized; few = start .few; within = tt; counted = start .counted; fresh = tt })
 
   pub row-next : (left ≡ 0 → ⊥) → (here : Walked) (sy : List ℕ) → length sy ≡ length seen → Small here sy → (b′ k′ : ℕ) → here ≡ Fine b′ k′
       → RowStart e n P R sy p (from + 1) (left - 1) b′ k′
@@ -128,10 +129,6 @@ module _ (e : Edition) (n : ℕ) (P R seen : List ℕ) (p from left b k : ℕ) (
         room = omega (arith, start .room);
         counted = rw eh at m;
       }
-
-pub same-role : (e : Edition) (n : ℕ) (P R seen : List ℕ) (p c b k : ℕ) → BlockStart e n P R seen (Child p) c b k
-    → (role : Role) → role ≡ Child p → BlockStart e n P R seen role c b k
-same-role e n P R seen p c b k start role er = rw er start
 
 -- an answer's bounds
 pub small-fault : (r : Refusal) (seen : List ℕ) → Small (Fault r) seen

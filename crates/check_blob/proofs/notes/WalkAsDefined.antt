@@ -162,21 +162,6 @@ module _ (e : Edition) (N : ℕ) (P R : List ℕ) (h : ℕ) (role : Role) (edge 
         → met r sx ox ≡ note e N P R h role edge seen s b k o
     note-inner n blk eb m em r sx ox er = er ∙ notes-below e N P R h edge seen₁ s b k o m (em ∙ ap countOf eb) n ∙ sym note-in
 
--- a leaf is a block of height 0
-pub note-zero : (e : Edition) (N : ℕ) (P R : List ℕ) (role : Role) (edge : Bool) (seen : List ℕ) (s b k : ℕ) (o : List ℕ) (x : Found Noted) (h : ℕ)
-    → h ≡ 0 → x ≡ note e N P R 0 role edge seen s b k o → x ≡ note e N P R h role edge seen s b k o
-note-zero e N P R role edge seen s b k o x h z ex = rw z ex
-
--- the visit of a child
-pub note-child : (e : Edition) (N : ℕ) (P R : List ℕ) (h p : ℕ) (role : Role) (edge : Bool) (seen : List ℕ) (s b k : ℕ) (o : List ℕ) (x : Found Noted)
-    → role ≡ Child p → x ≡ note e N P R h role edge seen s b k o → x ≡ note e N P R h (Child p) edge seen s b k o
-note-child e N P R h p role edge seen s b k o x er ex = rw er at ex
-
-pub note-child-leaf : (e : Edition) (N : ℕ) (P R : List ℕ) (h p : ℕ) (role : Role) (edge : Bool) (seen : List ℕ) (s b k : ℕ) (o : List ℕ) (x : Found Noted)
-    → h ≡ 0 → role ≡ Child p → x ≡ note e N P R 0 role edge seen s b k o → x ≡ note e N P R h (Child p) edge seen s b k o
-note-child-leaf e N P R h p role edge seen s b k o x z er ex =
-    note-zero e N P R (Child p) edge seen s b k o x h z (note-child e N P R 0 p role edge seen s b k o x er ex)
-
 -- the row visit
 notes-none : (e : Edition) (N : ℕ) (P R : List ℕ) (w p : ℕ) (edge : Bool) (l seen : List ℕ) (b k : ℕ) (o : List ℕ)
     → met (Fine b k) seen o ≡ notes e N P R w p edge (fours 0 l) seen b k o
@@ -187,10 +172,10 @@ pub notes-end : (e : Edition) (N : ℕ) (P R : List ℕ) (w p : ℕ) (edge : Boo
     (all : Found Noted) → all ≡ notes e N P R w p edge (fours left l) seen b k o → left ≡ 0 → met (Fine b k) seen o ≡ all
 notes-end e N P R w p edge left l seen b k o all ea z = rw (ea, z) (notes-none e N P R w p edge l seen b k o)
 
--- c is the first child of those left, visited by here, which leaves flags sy and row oy; all is what the whole row comes to
+-- c is the first child of those left, visited in its role by here, which leaves flags sy and row oy; all is what the whole row comes to
 module _ (e : Edition) (N : ℕ) (P R : List ℕ) (w p : ℕ) (edge : Bool) (left j : ℕ) (seen : List ℕ) (b k : ℕ) (o : List ℕ)
     (some : left ≡ 0 → ⊥) (c : ℕ) (ec : c ≡ number (part (16 + 4 * j) 4 (block e P p))) (last : Bool) (el : last ≡ lastOf edge left)
-    (here : Walked) (sy oy : List ℕ) (eh : met here sy oy ≡ note e N P R w (Child p) last seen c b k o) where
+    (role : Role) (er : role ≡ Child p) (here : Walked) (sy oy : List ℕ) (eh : met here sy oy ≡ note e N P R w role last seen c b k o) where
   abbrev whole : Found Noted
   whole = notes e N P R w p edge (fours left (drop (16 + 4 * j) (block e P p))) seen b k o
 
@@ -202,9 +187,10 @@ module _ (e : Edition) (N : ℕ) (P R : List ℕ) (w p : ℕ) (edge : Bool) (lef
   whole-is =
       let l : both edge (isEmpty rest) ≡ last = rw (none-after left (drop (16 + 4 * (j + 1)) (block e P p)) some) (sym el) in
       let q : fours left (drop (16 + 4 * j) (block e P p)) ≡ c ∷ rest = rw (fours-first left j (block e P p) some, ← ec) in
+      let h : met here sy oy ≡ note e N P R w (Child p) last seen c b k o = rw er at eh in
       ap (λ (cs : List ℕ). notes e N P R w p edge cs seen b k o) q
       ∙ notes-cons e N P R w p edge c rest seen b k o
-      ∙ rw (l, ← eh)
+      ∙ rw (l, ← h)
 
   module _ (all : Found Noted) (ea : all ≡ whole) where
     pub notes-stop : (r : Refusal) → here ≡ Fault r → (sx ox : List ℕ) → met here sx ox ≡ all

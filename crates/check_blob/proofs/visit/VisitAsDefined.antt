@@ -10,7 +10,7 @@ use lib.ListN.{length, getD, set}
 use Rattle.meaning.specs.Lists.{both, part, number}
 use Rattle.meaning.specs.Bytes.{block, recordAt, stateOf, recordedOf, state, recorded}
 use Rattle.meaning.specs.Refusals.{at, must}
-use Rattle.meaning.specs.Walk.{passing, blockCheck, isRoot, linkCheck, oneVisit}
+use Rattle.meaning.specs.Walk.{Found, passing, blockCheck, isRoot, linkCheck, oneVisit}
 use Rattle.meaning.specs.declared.Edition.{Edition}
 use Rattle.meaning.specs.declared.Refusal.{Refusal}
 use Rattle.meaning.specs.declared.Role.{Role}
@@ -19,7 +19,7 @@ use Rattle.meaning.specs.declared.Checked.{Checked}
 use Rattle.meaning.specs.declared.Checked.the-variants.{Passed, Faulty}
 use Rattle.laws.proofs.Inversions.{passed-linked}
 use Rattle.laws.proofs.Codec.{state-is}
-use Rattle.check_blob.specs.visit.{Sized, Within, met}
+use Rattle.check_blob.specs.visit.{Sized, Within, met, marked}
 
 -- check 1, as far as the code has come: rb is the slot's record, st its state
 module _ (N : ℕ) (R seen : List ℕ) (role : Role) (s : ℕ) where
@@ -88,7 +88,24 @@ unfolding Within
 linked-within n R seen Root s w q = w
 linked-within n R seen (Child p) s w q = passed-linked n R seen p s q .within
 
--- one visit: link and checked are the answers of the two checks
+-- checks 2 and 3, and the mark: checked is the answer of the checks
+module _ (e : Edition) (P R seen : List ℕ) (h : ℕ) (root edge : Bool) (s : ℕ) (checked : Checked)
+    (ec : checked ≡ blockCheck e h root edge (recorded R s) s (block e P s)) where
+  pub mark-faulty : (r : Refusal) → checked ≡ Faulty r → (b seen′ : List ℕ) → met checked b seen′ ≡ marked e P R h root edge seen s
+  unfolding met marked passing
+  mark-faulty r er b seen′ = rw er (simp (← ec, er))
+
+  pub mark-passed : checked ≡ Passed → met Passed (block e P s) (set seen s 1) ≡ marked e P R h root edge seen s
+  unfolding met marked passing
+  mark-passed pc = simp (← ec, pc)
+
+-- a root has no check 1
+pub root-visited : (e : Edition) (n : ℕ) (P R seen : List ℕ) (h : ℕ) (edge : Bool) (s : ℕ) (x : Found (List ℕ))
+    → x ≡ marked e P R h true edge seen s → x ≡ oneVisit e n P R h Root edge seen s
+unfolding marked oneVisit passing linkCheck isRoot
+root-visited e n P R seen h edge s x ex = ex
+
+-- one visit: link is the answer of check 1
 module _ (e : Edition) (n : ℕ) (P R seen : List ℕ) (h : ℕ) (role : Role) (edge : Bool) (s : ℕ)
     (link : Checked) (el : link ≡ linkCheck n R seen role s) where
   pub visit-unlinked : (r : Refusal) → link ≡ Faulty r → (b seen′ : List ℕ) → met link b seen′ ≡ oneVisit e n P R h role edge seen s
@@ -109,12 +126,7 @@ module _ (e : Edition) (n : ℕ) (P R seen : List ℕ) (h : ℕ) (role : Role) (
     pub visit-in-flags : Sized e n P R seen → Within n role s → s < length seen
     visit-in-flags z w = omega (arith, visit-within w, z .flags)
 
-    module _ (root : Bool) (eo : root ≡ isRoot role) (checked : Checked)
-        (ec : checked ≡ blockCheck e h root edge (recorded R s) s (block e P s)) where
-      pub visit-faulty : (r : Refusal) → checked ≡ Faulty r → (b seen′ : List ℕ) → met checked b seen′ ≡ oneVisit e n P R h role edge seen s
-      unfolding met oneVisit passing
-      visit-faulty r er b seen′ = rw er (simp (← el, pl, ← eo, ← ec, er))
-
-      pub visit-passed : checked ≡ Passed → met Passed (block e P s) (set seen s 1) ≡ oneVisit e n P R h role edge seen s
-      unfolding met oneVisit passing
-      visit-passed pc = simp (← el, pl, ← eo, ← ec, pc)
+    pub visit-linked : (root : Bool) → root ≡ isRoot role → (x : Found (List ℕ)) → x ≡ marked e P R h root edge seen s
+        → x ≡ oneVisit e n P R h role edge seen s
+    unfolding marked oneVisit passing
+    visit-linked root eo x ex = ex ∙ rw eo (simp (← el, pl))

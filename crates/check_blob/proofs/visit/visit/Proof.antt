@@ -1,5 +1,5 @@
--- Check 1, then checks 2 and 3, then the mark: each way out is a law of one visit.
-use Rattle.check_blob.proofs.visit.VisitAsDefined.{visit-unlinked, visit-in-pool, visit-in-records, visit-in-flags, visit-faulty, visit-passed}
+-- Check 1, then checks 2 and 3 and the mark: each way out is a law of one visit.
+use Rattle.check_blob.proofs.visit.VisitAsDefined.{visit-unlinked, visit-in-pool, visit-in-records, visit-in-flags, visit-linked}
 use borrow.Author.Needs.{needs}
 use Rattle.check_blob.proofs.visit.visit.Statement.{statement}
 use Rattle.check_blob.proofs.visit.visit.Tie as tie
@@ -22,29 +22,14 @@ returns c = search visit-unlinked
 is-root-requires : tie.Need-is-root-requires
 is-root-requires c κs = search needs
 
-check-slot-requires : tie.Need-check-slot-requires
-check-slot-requires c κs = (search needs, (search visit-in-pool, search visit-in-records))
-
-enum-told-3 : tie.Need-enum-told-3
-enum-told-3 c = search needs
-
-enum-told-4 : tie.Need-enum-told-4
-enum-told-4 c = search needs
+check-and-mark-requires : tie.Need-check-and-mark-requires
+check-and-mark-requires c κs = (search needs, ((search visit-in-pool, search visit-in-records), search visit-in-flags))
 
 same-length-2 : tie.Need-same-length-2
 same-length-2 c = search needs
 
 returns-2 : tie.Need-returns-2
-returns-2 c = search visit-faulty
-
-slice-write-seen : tie.Need-slice-write-seen
-slice-write-seen c = search visit-in-flags
-
-same-length-3 : tie.Need-same-length-3
-same-length-3 c = search needs
-
-returns-3 : tie.Need-returns-3
-returns-3 c = search visit-passed
+returns-2 c = search visit-linked
 
 pub visit-spec : {M : Type 1} → statement M
 visit-spec =
@@ -56,11 +41,6 @@ visit-spec =
     same-length
     returns
     is-root-requires
-    check-slot-requires
-    enum-told-3
-    enum-told-4
+    check-and-mark-requires
     same-length-2
-    returns-2
-    slice-write-seen
-    same-length-3
-    returns-3)
+    returns-2)

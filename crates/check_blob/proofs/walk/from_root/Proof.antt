@@ -1,4 +1,4 @@
--- The block visit of a root, from its own height on.
+-- The visit of a root, from its own height on.
 use Rattle.check_blob.proofs.walk.RootNoted.{root-is, root-in-pool, root-start}
 use borrow.Author.Needs.{needs}
 use Rattle.check_blob.proofs.walk.from_root.Statement.{statement}
@@ -10,8 +10,8 @@ block-of-requires c κs = search root-in-pool
 root-height-requires : tie.Need-root-height-requires
 root-height-requires c κs = search needs
 
-visit-block-requires : tie.Need-visit-block-requires
-visit-block-requires c κs = (search needs, search root-start)
+visit-root-requires : tie.Need-visit-root-requires
+visit-root-requires c κs = (search needs, search root-start)
 
 same-length : tie.Need-same-length
 same-length c = search needs
@@ -28,7 +28,7 @@ from-root-spec =
     (tie.spec
     block-of-requires
     root-height-requires
-    visit-block-requires
+    visit-root-requires
     same-length
     same-length-2
     returns)

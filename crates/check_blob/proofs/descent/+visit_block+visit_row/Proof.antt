@@ -1,7 +1,7 @@
--- Height falls from block to row, and children left in the row's loop. Its invariant: the whole row comes to what the children left come to,
--- with what was noted so far.
-use Rattle.check_blob.proofs.notes.Bounds.{block-in-pool, row-start, parent-in-pool, child-start, same-role, row-next, small-fault, small-stop, small-none}
-use Rattle.check_blob.proofs.notes.WalkAsDefined.{note-fault, note-inner, note-zero, note-child, note-child-leaf, notes-end, notes-stop, notes-on}
+-- Height falls from block to row, and children left in the row's loop: the measure is twice the height for a block, and twice the height of
+-- its blocks and one more for a row. The loop's invariant: the whole row comes to what the children left come to, with what was noted so far.
+use Rattle.check_blob.proofs.notes.Bounds.{block-in-pool, slot-small, bytes-fit, leaves-fit, count-data, leaf-small, row-start, parent-in-pool, child-start, row-next, small-fault, small-stop, small-none}
+use Rattle.check_blob.proofs.notes.WalkAsDefined.{note-fault, note-leaf, note-inner, notes-end, notes-stop, notes-on}
 use borrow.Author.Needs.{needs}
 use native.Mathlib.Omega.{arith}
 use mathlib.Core.Path.{_≡_, refl}
@@ -14,30 +14,24 @@ use borrow.Fn.Kinds.{In}
 use borrow.Fn.PlainCycle.{Measures, is, falls, and}
 use Rattle.check_blob.proofs.descent.visit_block.Reads as visit-block
 use Rattle.check_blob.proofs.descent.visit_block.Kinds as visit-block-kinds
-use Rattle.check_blob.proofs.descent.+visit_block+visit_child+visit_row.Lts-visit_block as visit-block-lts
-use Rattle.check_blob.proofs.descent.visit_child.Reads as visit-child
-use Rattle.check_blob.proofs.descent.visit_child.Kinds as visit-child-kinds
-use Rattle.check_blob.proofs.descent.+visit_block+visit_child+visit_row.Lts-visit_child as visit-child-lts
+use Rattle.check_blob.proofs.descent.+visit_block+visit_row.Lts-visit_block as visit-block-lts
 use Rattle.check_blob.proofs.descent.visit_row.Reads as visit-row
 use Rattle.check_blob.proofs.descent.visit_row.Kinds as visit-row-kinds
-use Rattle.check_blob.proofs.descent.+visit_block+visit_child+visit_row.Lts-visit_row as visit-row-lts
+use Rattle.check_blob.proofs.descent.+visit_block+visit_row.Lts-visit_row as visit-row-lts
 use Rattle.base_slot.proofs.fields.count_of.Reads as count-of-reads
 use Rattle.base_slot.proofs.slot.block_of.Reads as block-of-reads
+use Rattle.check_blob.proofs.notes.last_of.Reads as last-of-reads
+use Rattle.check_blob.proofs.notes.note_leaf.Reads as note-leaf-reads
 use Rattle.check_blob.proofs.visit.child_of.Reads as child-of-reads
 use Rattle.check_blob.proofs.visit.visit.Reads as visit-reads
-use Rattle.check_blob.proofs.notes.last_of.Reads as last-of-reads
-use Rattle.check_blob.proofs.notes.visit_leaf.Reads as visit-leaf-reads
-use Rattle.check_blob.proofs.descent.+visit_block+visit_child+visit_row.{statement}
-use Rattle.check_blob.proofs.descent.+visit_block+visit_child+visit_row.Tie.{close}
+use Rattle.check_blob.proofs.descent.+visit_block+visit_row.{statement}
+use Rattle.check_blob.proofs.descent.+visit_block+visit_row.Tie.{close}
 
 abbrev μ-visit-block : Measures 4 visit-block-kinds.ps ℕ
-μ-visit-block κs a = 3 * a .1 .1 .1 .1 .1 .1 .0
-
-abbrev μ-visit-child : Measures 4 visit-child-kinds.ps ℕ
-μ-visit-child κs a = 3 * a .1 .1 .1 .1 .1 .1 .0 + 1
+μ-visit-block κs a = 2 * a .1 .1 .1 .1 .1 .1 .0
 
 abbrev μ-visit-row : Measures 4 visit-row-kinds.ps ℕ
-μ-visit-row κs a = 3 * a .1 .1 .1 .1 .1 .1 .0 + 2
+μ-visit-row κs a = 2 * a .1 .1 .1 .1 .1 .1 .0 + 1
 
 abbrev visit-block-at : ℕ → In 4 visit-block-kinds.ps
 visit-block-at t =
@@ -47,14 +41,6 @@ abbrev visit-block-below : ℕ → In 4 visit-block-kinds.ps
 visit-block-below t =
     and 4 visit-block-kinds.ps (falls 4 visit-block-kinds.ps _<_ μ-visit-block t) visit-block.Pre
 
-abbrev visit-child-at : ℕ → In 4 visit-child-kinds.ps
-visit-child-at t =
-    and 4 visit-child-kinds.ps (is 4 visit-child-kinds.ps μ-visit-child t) visit-child.Pre
-
-abbrev visit-child-below : ℕ → In 4 visit-child-kinds.ps
-visit-child-below t =
-    and 4 visit-child-kinds.ps (falls 4 visit-child-kinds.ps _<_ μ-visit-child t) visit-child.Pre
-
 abbrev visit-row-at : ℕ → In 4 visit-row-kinds.ps
 visit-row-at t = and 4 visit-row-kinds.ps (is 4 visit-row-kinds.ps μ-visit-row t) visit-row.Pre
 
@@ -62,298 +48,262 @@ abbrev visit-row-below : ℕ → In 4 visit-row-kinds.ps
 visit-row-below t =
     and 4 visit-row-kinds.ps (falls 4 visit-row-kinds.ps _<_ μ-visit-row t) visit-row.Pre
 
-visit-block-visit-leaf-requires : (t : ℕ) → visit-block-lts.Need-visit-leaf-requires (
-  visit-leaf-reads.Asked,
-  visit-leaf-reads.Learnt,
-  visit-reads.Asked,
-  visit-reads.Learnt,
-  block-of-reads.Asked,
-  block-of-reads.Learnt,
-  count-of-reads.Asked,
-  count-of-reads.Learnt,
-  visit-row-below t,
-  visit-row.Post,
-) (visit-block-at t) visit-block.Post
-visit-block-visit-leaf-requires t c κs = search needs
-
-visit-block-same-length : (t : ℕ) → visit-block-lts.Need-same-length (
-  visit-leaf-reads.Asked,
-  visit-leaf-reads.Learnt,
-  visit-reads.Asked,
-  visit-reads.Learnt,
-  block-of-reads.Asked,
-  block-of-reads.Learnt,
-  count-of-reads.Asked,
-  count-of-reads.Learnt,
-  visit-row-below t,
-  visit-row.Post,
-) (visit-block-at t) visit-block.Post
-visit-block-same-length t c = search needs
-
-visit-block-same-length-2 : (t : ℕ) → visit-block-lts.Need-same-length-2 (
-  visit-leaf-reads.Asked,
-  visit-leaf-reads.Learnt,
-  visit-reads.Asked,
-  visit-reads.Learnt,
-  block-of-reads.Asked,
-  block-of-reads.Learnt,
-  count-of-reads.Asked,
-  count-of-reads.Learnt,
-  visit-row-below t,
-  visit-row.Post,
-) (visit-block-at t) visit-block.Post
-visit-block-same-length-2 t c = search needs
-
-visit-block-returns : (t : ℕ) → visit-block-lts.Need-returns (
-  visit-leaf-reads.Asked,
-  visit-leaf-reads.Learnt,
-  visit-reads.Asked,
-  visit-reads.Learnt,
-  block-of-reads.Asked,
-  block-of-reads.Learnt,
-  count-of-reads.Asked,
-  count-of-reads.Learnt,
-  visit-row-below t,
-  visit-row.Post,
-) (visit-block-at t) visit-block.Post
-visit-block-returns t c = (search note-zero, search needs)
-
 visit-block-visit-requires : (t : ℕ) → visit-block-lts.Need-visit-requires (
-  visit-leaf-reads.Asked,
-  visit-leaf-reads.Learnt,
   visit-reads.Asked,
   visit-reads.Learnt,
   block-of-reads.Asked,
   block-of-reads.Learnt,
   count-of-reads.Asked,
   count-of-reads.Learnt,
+  note-leaf-reads.Asked,
+  note-leaf-reads.Learnt,
   visit-row-below t,
   visit-row.Post,
 ) (visit-block-at t) visit-block.Post
 visit-block-visit-requires t c κs = search needs
 
 visit-block-enum-known-checked : (t : ℕ) → visit-block-lts.Need-enum-known-checked (
-  visit-leaf-reads.Asked,
-  visit-leaf-reads.Learnt,
   visit-reads.Asked,
   visit-reads.Learnt,
   block-of-reads.Asked,
   block-of-reads.Learnt,
   count-of-reads.Asked,
   count-of-reads.Learnt,
+  note-leaf-reads.Asked,
+  note-leaf-reads.Learnt,
   visit-row-below t,
   visit-row.Post,
 ) (visit-block-at t) visit-block.Post
 visit-block-enum-known-checked t c = search needs
 
 visit-block-enum-told : (t : ℕ) → visit-block-lts.Need-enum-told (
-  visit-leaf-reads.Asked,
-  visit-leaf-reads.Learnt,
   visit-reads.Asked,
   visit-reads.Learnt,
   block-of-reads.Asked,
   block-of-reads.Learnt,
   count-of-reads.Asked,
   count-of-reads.Learnt,
+  note-leaf-reads.Asked,
+  note-leaf-reads.Learnt,
   visit-row-below t,
   visit-row.Post,
 ) (visit-block-at t) visit-block.Post
 visit-block-enum-told t c = search needs
 
 visit-block-block-of-requires : (t : ℕ) → visit-block-lts.Need-block-of-requires (
-  visit-leaf-reads.Asked,
-  visit-leaf-reads.Learnt,
   visit-reads.Asked,
   visit-reads.Learnt,
   block-of-reads.Asked,
   block-of-reads.Learnt,
   count-of-reads.Asked,
   count-of-reads.Learnt,
+  note-leaf-reads.Asked,
+  note-leaf-reads.Learnt,
   visit-row-below t,
   visit-row.Post,
 ) (visit-block-at t) visit-block.Post
 visit-block-block-of-requires t c κs = search block-in-pool
 
 visit-block-count-of-requires : (t : ℕ) → visit-block-lts.Need-count-of-requires (
-  visit-leaf-reads.Asked,
-  visit-leaf-reads.Learnt,
   visit-reads.Asked,
   visit-reads.Learnt,
   block-of-reads.Asked,
   block-of-reads.Learnt,
   count-of-reads.Asked,
   count-of-reads.Learnt,
+  note-leaf-reads.Asked,
+  note-leaf-reads.Learnt,
   visit-row-below t,
   visit-row.Post,
 ) (visit-block-at t) visit-block.Post
 visit-block-count-of-requires t c κs = search needs
 
-visit-block-sub-visit-row : (t : ℕ) → visit-block-lts.Need-sub-visit-row (
-  visit-leaf-reads.Asked,
-  visit-leaf-reads.Learnt,
+visit-block-note-leaf-requires : (t : ℕ) → visit-block-lts.Need-note-leaf-requires (
   visit-reads.Asked,
   visit-reads.Learnt,
   block-of-reads.Asked,
   block-of-reads.Learnt,
   count-of-reads.Asked,
   count-of-reads.Learnt,
+  note-leaf-reads.Asked,
+  note-leaf-reads.Learnt,
   visit-row-below t,
   visit-row.Post,
 ) (visit-block-at t) visit-block.Post
-visit-block-sub-visit-row t c = search needs
+visit-block-note-leaf-requires t c κs = search slot-small
 
-visit-block-visit-row-requires : (t : ℕ) → visit-block-lts.Need-visit-row-requires (
-  visit-leaf-reads.Asked,
-  visit-leaf-reads.Learnt,
+visit-block-add-t26 : (t : ℕ) → visit-block-lts.Need-add-t26 (
   visit-reads.Asked,
   visit-reads.Learnt,
   block-of-reads.Asked,
   block-of-reads.Learnt,
   count-of-reads.Asked,
   count-of-reads.Learnt,
+  note-leaf-reads.Asked,
+  note-leaf-reads.Learnt,
+  visit-row-below t,
+  visit-row.Post,
+) (visit-block-at t) visit-block.Post
+visit-block-add-t26 t c = search bytes-fit
+
+visit-block-add-t27 : (t : ℕ) → visit-block-lts.Need-add-t27 (
+  visit-reads.Asked,
+  visit-reads.Learnt,
+  block-of-reads.Asked,
+  block-of-reads.Learnt,
+  count-of-reads.Asked,
+  count-of-reads.Learnt,
+  note-leaf-reads.Asked,
+  note-leaf-reads.Learnt,
+  visit-row-below t,
+  visit-row.Post,
+) (visit-block-at t) visit-block.Post
+visit-block-add-t27 t c = search leaves-fit
+
+visit-block-same-length : (t : ℕ) → visit-block-lts.Need-same-length (
+  visit-reads.Asked,
+  visit-reads.Learnt,
+  block-of-reads.Asked,
+  block-of-reads.Learnt,
+  count-of-reads.Asked,
+  count-of-reads.Learnt,
+  note-leaf-reads.Asked,
+  note-leaf-reads.Learnt,
+  visit-row-below t,
+  visit-row.Post,
+) (visit-block-at t) visit-block.Post
+visit-block-same-length t c = search needs
+
+visit-block-same-length-2 : (t : ℕ) → visit-block-lts.Need-same-length-2 (
+  visit-reads.Asked,
+  visit-reads.Learnt,
+  block-of-reads.Asked,
+  block-of-reads.Learnt,
+  count-of-reads.Asked,
+  count-of-reads.Learnt,
+  note-leaf-reads.Asked,
+  note-leaf-reads.Learnt,
+  visit-row-below t,
+  visit-row.Post,
+) (visit-block-at t) visit-block.Post
+visit-block-same-length-2 t c = search needs
+
+visit-block-returns : (t : ℕ) → visit-block-lts.Need-returns (
+  visit-reads.Asked,
+  visit-reads.Learnt,
+  block-of-reads.Asked,
+  block-of-reads.Learnt,
+  count-of-reads.Asked,
+  count-of-reads.Learnt,
+  note-leaf-reads.Asked,
+  note-leaf-reads.Learnt,
+  visit-row-below t,
+  visit-row.Post,
+) (visit-block-at t) visit-block.Post
+visit-block-returns t c = (search (note-leaf, count-data), search leaf-small)
+
+visit-block-sub-w : (t : ℕ) → visit-block-lts.Need-sub-w (
+  visit-reads.Asked,
+  visit-reads.Learnt,
+  block-of-reads.Asked,
+  block-of-reads.Learnt,
+  count-of-reads.Asked,
+  count-of-reads.Learnt,
+  note-leaf-reads.Asked,
+  note-leaf-reads.Learnt,
+  visit-row-below t,
+  visit-row.Post,
+) (visit-block-at t) visit-block.Post
+visit-block-sub-w t c = search needs
+
+visit-block-visit-row-requires : (t : ℕ) → visit-block-lts.Need-visit-row-requires (
+  visit-reads.Asked,
+  visit-reads.Learnt,
+  block-of-reads.Asked,
+  block-of-reads.Learnt,
+  count-of-reads.Asked,
+  count-of-reads.Learnt,
+  note-leaf-reads.Asked,
+  note-leaf-reads.Learnt,
   visit-row-below t,
   visit-row.Post,
 ) (visit-block-at t) visit-block.Post
 visit-block-visit-row-requires t c κs =
-    let k = c .before .before in
+    let i = c .before .before in
+    let k = i .before in
     let v = k .before .before .before .before .before .before in
-    let i = v .before .before in
-    let s = i .before .before .before .before .before in
+    let s = v .before .before .before .before .before .before in
     (omega arith, (search needs, row-start _ (s .pre .1 .0) _ _ _ _ _ _ _ _ _ _ (s .pre .1 .1) _ _ (v .visit .ensures) (search needs) _ (k .before .block-of .ensures .0) _ (k .count-of .ensures .0) (i .if1 .left)))
 
 visit-block-same-length-3 : (t : ℕ) → visit-block-lts.Need-same-length-3 (
-  visit-leaf-reads.Asked,
-  visit-leaf-reads.Learnt,
   visit-reads.Asked,
   visit-reads.Learnt,
   block-of-reads.Asked,
   block-of-reads.Learnt,
   count-of-reads.Asked,
   count-of-reads.Learnt,
+  note-leaf-reads.Asked,
+  note-leaf-reads.Learnt,
   visit-row-below t,
   visit-row.Post,
 ) (visit-block-at t) visit-block.Post
 visit-block-same-length-3 t c = search needs
 
 visit-block-returns-2 : (t : ℕ) → visit-block-lts.Need-returns-2 (
-  visit-leaf-reads.Asked,
-  visit-leaf-reads.Learnt,
   visit-reads.Asked,
   visit-reads.Learnt,
   block-of-reads.Asked,
   block-of-reads.Learnt,
   count-of-reads.Asked,
   count-of-reads.Learnt,
+  note-leaf-reads.Asked,
+  note-leaf-reads.Learnt,
   visit-row-below t,
   visit-row.Post,
 ) (visit-block-at t) visit-block.Post
 visit-block-returns-2 t c = (search note-fault, search small-fault)
 
 visit-block-same-length-4 : (t : ℕ) → visit-block-lts.Need-same-length-4 (
-  visit-leaf-reads.Asked,
-  visit-leaf-reads.Learnt,
   visit-reads.Asked,
   visit-reads.Learnt,
   block-of-reads.Asked,
   block-of-reads.Learnt,
   count-of-reads.Asked,
   count-of-reads.Learnt,
+  note-leaf-reads.Asked,
+  note-leaf-reads.Learnt,
   visit-row-below t,
   visit-row.Post,
 ) (visit-block-at t) visit-block.Post
 visit-block-same-length-4 t c = search needs
 
 visit-block-same-length-5 : (t : ℕ) → visit-block-lts.Need-same-length-5 (
-  visit-leaf-reads.Asked,
-  visit-leaf-reads.Learnt,
   visit-reads.Asked,
   visit-reads.Learnt,
   block-of-reads.Asked,
   block-of-reads.Learnt,
   count-of-reads.Asked,
   count-of-reads.Learnt,
+  note-leaf-reads.Asked,
+  note-leaf-reads.Learnt,
   visit-row-below t,
   visit-row.Post,
 ) (visit-block-at t) visit-block.Post
 visit-block-same-length-5 t c = search needs
 
 visit-block-returns-3 : (t : ℕ) → visit-block-lts.Need-returns-3 (
-  visit-leaf-reads.Asked,
-  visit-leaf-reads.Learnt,
   visit-reads.Asked,
   visit-reads.Learnt,
   block-of-reads.Asked,
   block-of-reads.Learnt,
   count-of-reads.Asked,
   count-of-reads.Learnt,
+  note-leaf-reads.Asked,
+  note-leaf-reads.Learnt,
   visit-row-below t,
   visit-row.Post,
 ) (visit-block-at t) visit-block.Post
 visit-block-returns-3 t c = (search note-inner, search needs)
-
-visit-child-visit-leaf-requires : (t : ℕ) → visit-child-lts.Need-visit-leaf-requires (
-  visit-leaf-reads.Asked,
-  visit-leaf-reads.Learnt,
-  visit-block-below t,
-  visit-block.Post,
-) (visit-child-at t) visit-child.Post
-visit-child-visit-leaf-requires t c κs = (search needs, search same-role)
-
-visit-child-same-length : (t : ℕ) → visit-child-lts.Need-same-length (
-  visit-leaf-reads.Asked,
-  visit-leaf-reads.Learnt,
-  visit-block-below t,
-  visit-block.Post,
-) (visit-child-at t) visit-child.Post
-visit-child-same-length t c = search needs
-
-visit-child-same-length-2 : (t : ℕ) → visit-child-lts.Need-same-length-2 (
-  visit-leaf-reads.Asked,
-  visit-leaf-reads.Learnt,
-  visit-block-below t,
-  visit-block.Post,
-) (visit-child-at t) visit-child.Post
-visit-child-same-length-2 t c = search needs
-
-visit-child-returns : (t : ℕ) → visit-child-lts.Need-returns (
-  visit-leaf-reads.Asked,
-  visit-leaf-reads.Learnt,
-  visit-block-below t,
-  visit-block.Post,
-) (visit-child-at t) visit-child.Post
-visit-child-returns t c = (search note-child-leaf, search needs)
-
-visit-child-visit-block-requires : (t : ℕ) → visit-child-lts.Need-visit-block-requires (
-  visit-leaf-reads.Asked,
-  visit-leaf-reads.Learnt,
-  visit-block-below t,
-  visit-block.Post,
-) (visit-child-at t) visit-child.Post
-visit-child-visit-block-requires t c κs = (omega arith, (search needs, search same-role))
-
-visit-child-same-length-3 : (t : ℕ) → visit-child-lts.Need-same-length-3 (
-  visit-leaf-reads.Asked,
-  visit-leaf-reads.Learnt,
-  visit-block-below t,
-  visit-block.Post,
-) (visit-child-at t) visit-child.Post
-visit-child-same-length-3 t c = search needs
-
-visit-child-same-length-4 : (t : ℕ) → visit-child-lts.Need-same-length-4 (
-  visit-leaf-reads.Asked,
-  visit-leaf-reads.Learnt,
-  visit-block-below t,
-  visit-block.Post,
-) (visit-child-at t) visit-child.Post
-visit-child-same-length-4 t c = search needs
-
-visit-child-returns-2 : (t : ℕ) → visit-child-lts.Need-returns-2 (
-  visit-leaf-reads.Asked,
-  visit-leaf-reads.Learnt,
-  visit-block-below t,
-  visit-block.Post,
-) (visit-child-at t) visit-child.Post
-visit-child-returns-2 t c = (search note-child, search needs)
 
 abbrev visit-row-Inv-loop : visit-row-lts.InvT-loop
 visit-row-Inv-loop e pool records seen₀ row₀ n w parent edge count bytes leaves b₀ k₀ from₀ left₀ seen row b k from left =
@@ -370,8 +320,8 @@ visit-row-loop-holds : (t : ℕ) → visit-row-lts.Need-loop-holds (
   child-of-reads.Learnt,
   last-of-reads.Asked,
   last-of-reads.Learnt,
-  visit-child-below t,
-  visit-child.Post,
+  visit-block-below t,
+  visit-block.Post,
 ) (visit-row-at t) visit-row.Post visit-row-Inv-loop visit-row-μ-loop
 visit-row-loop-holds t c = (refl, search needs, refl, refl)
 
@@ -380,8 +330,8 @@ visit-row-child-of-requires : (t : ℕ) → visit-row-lts.Need-child-of-requires
   child-of-reads.Learnt,
   last-of-reads.Asked,
   last-of-reads.Learnt,
-  visit-child-below t,
-  visit-child.Post,
+  visit-block-below t,
+  visit-block.Post,
 ) (visit-row-at t) visit-row.Post visit-row-Inv-loop visit-row-μ-loop
 visit-row-child-of-requires t c κs = (search needs, (search parent-in-pool, omega arith))
 
@@ -390,28 +340,28 @@ visit-row-last-of-requires : (t : ℕ) → visit-row-lts.Need-last-of-requires (
   child-of-reads.Learnt,
   last-of-reads.Asked,
   last-of-reads.Learnt,
-  visit-child-below t,
-  visit-child.Post,
+  visit-block-below t,
+  visit-block.Post,
 ) (visit-row-at t) visit-row.Post visit-row-Inv-loop visit-row-μ-loop
 visit-row-last-of-requires t c κs = search needs
 
-visit-row-visit-child-requires : (t : ℕ) → visit-row-lts.Need-visit-child-requires (
+visit-row-visit-block-requires : (t : ℕ) → visit-row-lts.Need-visit-block-requires (
   child-of-reads.Asked,
   child-of-reads.Learnt,
   last-of-reads.Asked,
   last-of-reads.Learnt,
-  visit-child-below t,
-  visit-child.Post,
+  visit-block-below t,
+  visit-block.Post,
 ) (visit-row-at t) visit-row.Post visit-row-Inv-loop visit-row-μ-loop
-visit-row-visit-child-requires t c κs = (omega arith, (search needs, search child-start))
+visit-row-visit-block-requires t c κs = (omega arith, (search needs, search child-start))
 
 visit-row-enum-known-here : (t : ℕ) → visit-row-lts.Need-enum-known-here (
   child-of-reads.Asked,
   child-of-reads.Learnt,
   last-of-reads.Asked,
   last-of-reads.Learnt,
-  visit-child-below t,
-  visit-child.Post,
+  visit-block-below t,
+  visit-block.Post,
 ) (visit-row-at t) visit-row.Post visit-row-Inv-loop visit-row-μ-loop
 visit-row-enum-known-here t c = search needs
 
@@ -420,8 +370,8 @@ visit-row-enum-told : (t : ℕ) → visit-row-lts.Need-enum-told (
   child-of-reads.Learnt,
   last-of-reads.Asked,
   last-of-reads.Learnt,
-  visit-child-below t,
-  visit-child.Post,
+  visit-block-below t,
+  visit-block.Post,
 ) (visit-row-at t) visit-row.Post visit-row-Inv-loop visit-row-μ-loop
 visit-row-enum-told t c = search needs
 
@@ -430,8 +380,8 @@ visit-row-same-length : (t : ℕ) → visit-row-lts.Need-same-length (
   child-of-reads.Learnt,
   last-of-reads.Asked,
   last-of-reads.Learnt,
-  visit-child-below t,
-  visit-child.Post,
+  visit-block-below t,
+  visit-block.Post,
 ) (visit-row-at t) visit-row.Post visit-row-Inv-loop visit-row-μ-loop
 visit-row-same-length t c = search needs
 
@@ -440,8 +390,8 @@ visit-row-same-length-2 : (t : ℕ) → visit-row-lts.Need-same-length-2 (
   child-of-reads.Learnt,
   last-of-reads.Asked,
   last-of-reads.Learnt,
-  visit-child-below t,
-  visit-child.Post,
+  visit-block-below t,
+  visit-block.Post,
 ) (visit-row-at t) visit-row.Post visit-row-Inv-loop visit-row-μ-loop
 visit-row-same-length-2 t c = search needs
 
@@ -450,8 +400,8 @@ visit-row-returns : (t : ℕ) → visit-row-lts.Need-returns (
   child-of-reads.Learnt,
   last-of-reads.Asked,
   last-of-reads.Learnt,
-  visit-child-below t,
-  visit-child.Post,
+  visit-block-below t,
+  visit-block.Post,
 ) (visit-row-at t) visit-row.Post visit-row-Inv-loop visit-row-μ-loop
 visit-row-returns t c = (search notes-stop, search small-stop)
 
@@ -460,8 +410,8 @@ visit-row-add-from : (t : ℕ) → visit-row-lts.Need-add-from (
   child-of-reads.Learnt,
   last-of-reads.Asked,
   last-of-reads.Learnt,
-  visit-child-below t,
-  visit-child.Post,
+  visit-block-below t,
+  visit-block.Post,
 ) (visit-row-at t) visit-row.Post visit-row-Inv-loop visit-row-μ-loop
 visit-row-add-from t c = search needs
 
@@ -470,8 +420,8 @@ visit-row-sub-left : (t : ℕ) → visit-row-lts.Need-sub-left (
   child-of-reads.Learnt,
   last-of-reads.Asked,
   last-of-reads.Learnt,
-  visit-child-below t,
-  visit-child.Post,
+  visit-block-below t,
+  visit-block.Post,
 ) (visit-row-at t) visit-row.Post visit-row-Inv-loop visit-row-μ-loop
 visit-row-sub-left t c = search needs
 
@@ -480,8 +430,8 @@ visit-row-loop-less : (t : ℕ) → visit-row-lts.Need-loop-less (
   child-of-reads.Learnt,
   last-of-reads.Asked,
   last-of-reads.Learnt,
-  visit-child-below t,
-  visit-child.Post,
+  visit-block-below t,
+  visit-block.Post,
 ) (visit-row-at t) visit-row.Post visit-row-Inv-loop visit-row-μ-loop
 visit-row-loop-less t c = search needs
 
@@ -490,8 +440,8 @@ visit-row-loop-again : (t : ℕ) → visit-row-lts.Need-loop-again (
   child-of-reads.Learnt,
   last-of-reads.Asked,
   last-of-reads.Learnt,
-  visit-child-below t,
-  visit-child.Post,
+  visit-block-below t,
+  visit-block.Post,
 ) (visit-row-at t) visit-row.Post visit-row-Inv-loop visit-row-μ-loop
 visit-row-loop-again t c = (search notes-on, search row-next, search needs, search needs)
 
@@ -500,8 +450,8 @@ visit-row-same-length-3 : (t : ℕ) → visit-row-lts.Need-same-length-3 (
   child-of-reads.Learnt,
   last-of-reads.Asked,
   last-of-reads.Learnt,
-  visit-child-below t,
-  visit-child.Post,
+  visit-block-below t,
+  visit-block.Post,
 ) (visit-row-at t) visit-row.Post visit-row-Inv-loop visit-row-μ-loop
 visit-row-same-length-3 t c = search needs
 
@@ -510,8 +460,8 @@ visit-row-same-length-4 : (t : ℕ) → visit-row-lts.Need-same-length-4 (
   child-of-reads.Learnt,
   last-of-reads.Asked,
   last-of-reads.Learnt,
-  visit-child-below t,
-  visit-child.Post,
+  visit-block-below t,
+  visit-block.Post,
 ) (visit-row-at t) visit-row.Post visit-row-Inv-loop visit-row-μ-loop
 visit-row-same-length-4 t c = search needs
 
@@ -520,66 +470,51 @@ visit-row-returns-2 : (t : ℕ) → visit-row-lts.Need-returns-2 (
   child-of-reads.Learnt,
   last-of-reads.Asked,
   last-of-reads.Learnt,
-  visit-child-below t,
-  visit-child.Post,
+  visit-block-below t,
+  visit-block.Post,
 ) (visit-row-at t) visit-row.Post visit-row-Inv-loop visit-row-μ-loop
 visit-row-returns-2 t c = (search notes-end, search small-none)
 
-pub +visit-block+visit-child+visit-row-spec : {M : Type 1} → statement M
-+visit-block+visit-child+visit-row-spec =
-    close μ-visit-block μ-visit-child μ-visit-row (λ t. visit-block-lts.spec (
-      visit-leaf-reads.Asked,
-      visit-leaf-reads.Learnt,
-      visit-reads.Asked,
-      visit-reads.Learnt,
-      block-of-reads.Asked,
-      block-of-reads.Learnt,
-      count-of-reads.Asked,
-      count-of-reads.Learnt,
-      visit-row-below t,
-      visit-row.Post,
-    )
+pub +visit-block+visit-row-spec : {M : Type 1} → statement M
++visit-block+visit-row-spec = close μ-visit-block μ-visit-row (λ t. visit-block-lts.spec (
+  visit-reads.Asked,
+  visit-reads.Learnt,
+  block-of-reads.Asked,
+  block-of-reads.Learnt,
+  count-of-reads.Asked,
+  count-of-reads.Learnt,
+  note-leaf-reads.Asked,
+  note-leaf-reads.Learnt,
+  visit-row-below t,
+  visit-row.Post,
+)
     (visit-block-at t)
     visit-block.Post
-    (visit-block-visit-leaf-requires t)
-    (visit-block-same-length t)
-    (visit-block-same-length-2 t)
-    (visit-block-returns t)
     (visit-block-visit-requires t)
     (visit-block-enum-known-checked t)
     (visit-block-enum-told t)
     (visit-block-block-of-requires t)
     (visit-block-count-of-requires t)
-    (visit-block-sub-visit-row t)
+    (visit-block-note-leaf-requires t)
+    (visit-block-add-t26 t)
+    (visit-block-add-t27 t)
+    (visit-block-same-length t)
+    (visit-block-same-length-2 t)
+    (visit-block-returns t)
+    (visit-block-sub-w t)
     (visit-block-visit-row-requires t)
     (visit-block-same-length-3 t)
     (visit-block-returns-2 t)
     (visit-block-same-length-4 t)
     (visit-block-same-length-5 t)
     (visit-block-returns-3 t))
-    (λ t. visit-child-lts.spec (
-      visit-leaf-reads.Asked,
-      visit-leaf-reads.Learnt,
-      visit-block-below t,
-      visit-block.Post,
-    )
-    (visit-child-at t)
-    visit-child.Post
-    (visit-child-visit-leaf-requires t)
-    (visit-child-same-length t)
-    (visit-child-same-length-2 t)
-    (visit-child-returns t)
-    (visit-child-visit-block-requires t)
-    (visit-child-same-length-3 t)
-    (visit-child-same-length-4 t)
-    (visit-child-returns-2 t))
     λ t. visit-row-lts.spec (
       child-of-reads.Asked,
       child-of-reads.Learnt,
       last-of-reads.Asked,
       last-of-reads.Learnt,
-      visit-child-below t,
-      visit-child.Post,
+      visit-block-below t,
+      visit-block.Post,
     )
     (visit-row-at t)
     visit-row.Post
@@ -588,7 +523,7 @@ pub +visit-block+visit-child+visit-row-spec : {M : Type 1} → statement M
     (visit-row-loop-holds t)
     (visit-row-child-of-requires t)
     (visit-row-last-of-requires t)
-    (visit-row-visit-child-requires t)
+    (visit-row-visit-block-requires t)
     (visit-row-enum-known-here t)
     (visit-row-enum-told t)
     (visit-row-same-length t)
