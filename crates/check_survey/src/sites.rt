@@ -15,6 +15,28 @@ ghost use Rattle.laws_resize.specs.growth.Sites.{sitesOf};
 ghost use Rattle.check_survey.specs.sites.Spelt.{blobAt, treeSites, rowSites, treeLeaves, rowLeaves};
 ghost use Rattle.check_survey.specs.sites.Marks.{Marked, BlockStart, RowStart, SitesStart};
 
+// Notes a root of height h and all below it: the root, which stands in no row, and then its row.
+fn note_root(
+    e: Edition,
+    pool: &[u8],
+    heights: &mut [u8],
+    firsts: &mut [u32],
+    n: usize,
+    h: usize,
+    root: usize,
+)
+    requires { ⌜ Proper e ⌝ }
+    requires { ⌜ BlockStart e n (now pool) (now heights) (now firsts) h root 0 ⌝ }
+    ensures { λ _. ⌜ Marked (treeSites e (now (pool .entry)) h 0 root) (now (heights .entry)) (now (firsts .entry)) (now (heights .exit)) (now (firsts .exit)) ⌝ }
+{
+    marks::note_slot(heights, firsts, root, h, 0);
+    if h == 0 {
+        return;
+    }
+    let count = fields::count_of(slot::block_of(e, pool, root));
+    note_row(e, pool, heights, firsts, n, h - 1, root, count, 0);
+}
+
 // Notes a block of height h and all below it, after that many leaves. Answers how many leaves there are then.
 fn note_block(
     e: Edition,
@@ -61,34 +83,11 @@ fn note_row(
     let mut left = count;
     while left != 0 {
         let child = visit::child_of(e, pool, parent, from);
-        k = note_child(e, pool, heights, firsts, n, w, child, k);
+        k = note_block(e, pool, heights, firsts, n, w, child, k);
         from += 1;
         left -= 1;
     }
     k
-}
-
-// Notes a child of a block: as a block is noted, but for a leaf with no further call.
-fn note_child(
-    e: Edition,
-    pool: &[u8],
-    heights: &mut [u8],
-    firsts: &mut [u32],
-    n: usize,
-    w: usize,
-    slot: usize,
-    leaves: usize,
-) -> usize
-    requires { ⌜ Proper e ⌝ }
-    requires { ⌜ BlockStart e n (now pool) (now heights) (now firsts) w slot leaves ⌝ }
-    ensures { λ r. ⌜ Marked (treeSites e (now (pool .entry)) w leaves slot) (now (heights .entry)) (now (firsts .entry)) (now (heights .exit)) (now (firsts .exit)) ⌝ }
-    ensures { λ r. ⌜ r ≡ leaves + treeLeaves e (now (pool .entry)) w slot ⌝ }
-{
-    if w == 0 {
-        marks::note_slot(heights, firsts, slot, w, leaves);
-        return leaves + 1;
-    }
-    note_block(e, pool, heights, firsts, n, w, slot, leaves)
 }
 
 // Notes the blocks of the blob with that root.
@@ -105,5 +104,5 @@ pub fn note_sites(
     ensures { λ _. ⌜ Marked (sitesOf (blobAt e (now (pool .entry)) root)) (now (heights .entry)) (now (firsts .entry)) (now (heights .exit)) (now (firsts .exit)) ⌝ }
 {
     let h = fields::height_of(slot::block_of(e, pool, root));
-    note_block(e, pool, heights, firsts, n, h, root, 0);
+    note_root(e, pool, heights, firsts, n, h, root)
 }

@@ -1,4 +1,4 @@
--- The block visit of the root, by the height that its block has.
+-- The root and all below it are noted, by the height that its block has.
 use Rattle.check_survey.proofs.sites.NotedAsTheyStand.{blob-noted}
 use Rattle.check_survey.proofs.sites.Bounds.{root-in-pool, root-start}
 use borrow.Author.Needs.{needs}
@@ -11,8 +11,8 @@ block-of-requires c κs = search root-in-pool
 height-of-requires : tie.Need-height-of-requires
 height-of-requires c κs = search needs
 
-note-block-requires : tie.Need-note-block-requires
-note-block-requires c κs = (search needs, search root-start)
+note-root-requires : tie.Need-note-root-requires
+note-root-requires c κs = (search needs, search root-start)
 
 same-length : tie.Need-same-length
 same-length c = search needs
@@ -29,7 +29,7 @@ note-sites-spec =
     (tie.spec
     block-of-requires
     height-of-requires
-    note-block-requires
+    note-root-requires
     same-length
     same-length-2
     returns)
