@@ -1,2 +1,2 @@
-pub mod Cases
-pub mod Calls
+pub mod NumbersOfAnswers
+pub mod NumbersOfCalls

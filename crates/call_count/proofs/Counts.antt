@@ -15,7 +15,7 @@ use Rattle.meaning.specs.Edition.{Proper}
 use Rattle.meaning.specs.Lists.{pick}
 use Rattle.meaning.specs.Change.{Change}
 use Rattle.laws.proofs.Inversions.{by-test}
-use Rattle.laws_resize.specs.growth.Slots.{usableBelow}
+use Rattle.laws_resize.specs.growth.HeldAfter.{usableBelow}
 use Rattle.check_blob.proofs.visit.VisitAsDefined.{slot-fits}
 use Rattle.check_gate.specs.Gate.{Whole}
 use Rattle.check_survey.specs.sites.Known.{Known}

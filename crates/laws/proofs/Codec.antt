@@ -57,10 +57,10 @@ fours-length [] = refl
 fours-length (x ∷ row) = simp (length-append, bytes-length) (omega (arith, fours-length row))
 
 -- a row's bytes are as many as its payload uses
-pub row-length : (h : ℕ) (row : List ℕ) → length (itemBytes h row) ≡ used h (length row)
+pub item-length : (h : ℕ) (row : List ℕ) → length (itemBytes h row) ≡ used h (length row)
 unfolding itemBytes used
-row-length zero row = refl
-row-length (suc h) row = fours-length row
+item-length zero row = refl
+item-length (suc h) row = fours-length row
 
 -- a leaf's row is written as it is
 pub row-leaf : (h : ℕ) (row : List ℕ) → h ≡ 0 → itemBytes h row ≡ row
@@ -194,7 +194,7 @@ module _ (e : Edition) (p : Proper e) (c : Cell) (s v : ℕ) (fits : length (ite
   unfolding part
   rest-read =
       let u : ℕ = used (c .height) (length (c .items)) in
-      let k : length (itemBytes (c .height) (c .items)) ≡ u = row-length (c .height) (c .items) in
+      let k : length (itemBytes (c .height) (c .items)) ≡ u = item-length (c .height) (c .items) in
       let w : 16 + u + (e .leaf - u) ≡ 16 + e .leaf = omega arith in
       let i : 16 + u ≤ length (encoded e c s v) = rw encoded-length (omega (arith, p .fits)) in
       let d : drop (16 + u) (encoded e c s v) ≡ padding e c =
@@ -210,7 +210,7 @@ pub written-passes : (e : Edition) → Proper e → (c : Cell) (h : ℕ) (root e
     → leastCount e h edge root ≤ length (c .items) → length (c .items) ≤ mostCount e h → s < 2 ^ 32 → v < 2 ^ 64
     → blockCheck e h root edge v s (encoded e c s v) ≡ Passed
 written-passes e p c h root edge v s eh lo hi hs hv =
-    let fits : length (itemBytes (c .height) (c .items)) ≤ e .leaf = rw (row-length (c .height) (c .items), eh) (used-fits e p h (length (c .items)) hi) in
+    let fits : length (itemBytes (c .height) (c .items)) ≤ e .leaf = rw (item-length (c .height) (c .items), eh) (used-fits e p h (length (c .items)) hi) in
     let n = count-read e p c s v fits in
     sound-passed e h root edge v s (encoded e c s v) (record {
       mark = rw (mark-read e p c s v fits) (same-self (e .mark));
@@ -223,25 +223,25 @@ written-passes e p c h root edge v s eh lo hi hs hv =
     })
 
 -- the row that a block gives, read as one of height h
-unfoldable pub rowOf : (h : ℕ) → List ℕ → List ℕ
-rowOf zero b = dataOf b
-rowOf (suc h) b = childrenOf b
+unfoldable pub itemsOf : (h : ℕ) → List ℕ → List ℕ
+itemsOf zero b = dataOf b
+itemsOf (suc h) b = childrenOf b
 
 -- the cell that it gives
 unfoldable pub cellOf : (h : ℕ) → List ℕ → Cell
-cellOf h b = record { height = h; items = rowOf h b }
+cellOf h b = record { height = h; items = itemsOf h b }
 
 -- a written cell is read back whole
 pub cell-read : (e : Edition) → Proper e → (c : Cell) (s v : ℕ) → length (itemBytes (c .height) (c .items)) ≤ e .leaf
     → ((c .height ≡ 0 → ⊥) → (i : ℕ) → getD (c .items) i 0 < 2 ^ 32) → cellOf (c .height) (encoded e c s v) ≡ c
-unfolding cellOf rowOf
+unfolding cellOf itemsOf
 cell-read e p c s v fits small = λ i. record { height = c .height; items = row-read i }
   where
-    by-height : (h : ℕ) → c .height ≡ h → rowOf h (encoded e c s v) ≡ c .items
+    by-height : (h : ℕ) → c .height ≡ h → itemsOf h (encoded e c s v) ≡ c .items
     by-height zero q = data-read e p c s v fits q
     by-height (suc h) q = children-read e p c s v fits (omega arith) (small (omega arith))
 
-    row-read : rowOf (c .height) (encoded e c s v) ≡ c .items
+    row-read : itemsOf (c .height) (encoded e c s v) ≡ c .items
     row-read = by-height (c .height) refl
 
 -- past the first two bytes: the next two, then the rest
@@ -265,15 +265,15 @@ read-length (suc n) l = ap suc (read-length n (drop 4 l))
 -- a block's row
 module _ (b : List ℕ) where
   -- has as many elements as its count says
-  pub row-count : (h : ℕ) → 16 + used h (countOf b) ≤ length b → length (rowOf h b) ≡ countOf b
-  unfolding rowOf used dataOf childrenOf
-  row-count zero k = part-length 16 (countOf b) b k
-  row-count (suc h) k = read-length (countOf b) (drop 16 b)
+  pub item-count : (h : ℕ) → 16 + used h (countOf b) ≤ length b → length (itemsOf h b) ≡ countOf b
+  unfolding itemsOf used dataOf childrenOf
+  item-count zero k = part-length 16 (countOf b) b k
+  item-count (suc h) k = read-length (countOf b) (drop 16 b)
 
   -- is written as the bytes that it was read from
   pub row-written : (h : ℕ) → 16 + used h (countOf b) ≤ length b → ((i : ℕ) → getD b i 0 < 256)
-      → itemBytes h (rowOf h b) ≡ part 16 (used h (countOf b)) b
-  unfolding rowOf itemBytes used dataOf childrenOf part
+      → itemBytes h (itemsOf h b) ≡ part 16 (used h (countOf b)) b
+  unfolding itemsOf itemBytes used dataOf childrenOf part
   row-written zero k small = refl
   row-written (suc h) k small = fours-written (countOf b) (drop 16 b) (rw length-drop (omega arith)) (drop-small 16 b small)
 
@@ -285,18 +285,18 @@ passed-encoded e p whole h root edge v s b long small passed =
     let f = passed-sound e h root edge v s b passed in
     let u : ℕ = used h (countOf b) in
     let i : u ≤ e .leaf = used-fits e p h (countOf b) (f .most) in
-    let n : length (rowOf h b) ≡ countOf b = row-count b h (omega arith) in
-    let r : itemBytes h (rowOf h b) ≡ part 16 u b = row-written b h (omega arith) small in
-    let k : length (itemBytes h (rowOf h b)) ≡ u = ap length r ∙ part-length 16 u b (omega arith) in
+    let n : length (itemsOf h b) ≡ countOf b = item-count b h (omega arith) in
+    let r : itemBytes h (itemsOf h b) ≡ part 16 u b = row-written b h (omega arith) small in
+    let k : length (itemBytes h (itemsOf h b)) ≡ u = ap length r ∙ part-length 16 u b (omega arith) in
     let z : drop u (drop 16 b) ≡ replicate (length (drop u (drop 16 b))) 0 =
     zeros-list (drop u (drop 16 b)) (rw (drop-drop u 16 b) (rw (take-all (16 + e .leaf) b (omega arith)) at (f .rest))) in
-    let w : length (drop u (drop 16 b)) ≡ e .size - (16 + length (itemBytes h (rowOf h b))) = simp length-drop (omega arith) in
-    let after : drop 16 b ≡ itemBytes h (rowOf h b) ++ padding e (cellOf h b) =
+    let w : length (drop u (drop 16 b)) ≡ e .size - (16 + length (itemBytes h (itemsOf h b))) = simp length-drop (omega arith) in
+    let after : drop 16 b ≡ itemBytes h (itemsOf h b) ++ padding e (cellOf h b) =
     sym (take-append-drop u (drop 16 b)) ∙ ap₂ _++_ (sym r) (z ∙ ap (λ (m : ℕ). replicate m 0) w) in
     let mark : take 2 b ≡ e .mark = same-list (take 2 b) (e .mark) (f .mark) in
     let slot : part 4 4 b ≡ bytes 4 s = sym (bytes-of 4 s (part 4 4 b) (part-length 4 4 b (omega arith)) (f .own) (part-small 4 4 b small)) in
     let version : part 8 8 b ≡ bytes 8 v = sym (bytes-of 8 v (part 8 8 b) (part-length 8 8 b (omega arith)) (f .version) (part-small 8 8 b small)) in
-    let front : take 16 b ≡ header e h (length (rowOf h b)) s v =
+    let front : take 16 b ≡ header e h (length (itemsOf h b)) s v =
     front-sixteen b (omega arith) ∙ (λ j. mark j ++ (f .height j ∷ sym n j ∷ (slot j ++ version j))) in
     sym (take-append-drop 16 b) ∙ ap₂ _++_ front after ∙ sym (encoded-bytes e p (cellOf h b) s v (omega arith))
 

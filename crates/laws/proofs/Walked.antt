@@ -22,7 +22,7 @@ use Rattle.meaning.specs.Shape.{mostCount, InRow, ShapedTree, Shaped}
 use Rattle.meaning.specs.Walk.{used, isRoot, linkCheck, Found, fine, isEmpty, oneVisit, visitRow, visit, fromRoot}
 use Rattle.laws.proofs.Numbers.{part-length}
 use Rattle.laws.proofs.Checks.{used-fits}
-use Rattle.laws.proofs.Codec.{rowOf, row-count}
+use Rattle.laws.proofs.Codec.{itemsOf, item-count}
 use Rattle.laws.proofs.Inversions.{never, andThen-turned, andThen-joined, fine-same, Sound, passed-sound, passed-linked, fine-visited}
 
 -- what a leaf's visit that went well found: its bytes
@@ -157,8 +157,8 @@ module _ (e : Edition) (p : Proper e) (N : ℕ) (P : List ℕ) (whole : length P
 
   -- a block that is sound has a row of as many elements as it counts
   row-length : (h : ℕ) (root edge : Bool) (v s : ℕ) → s < N → Sound e h root edge v s (block e P s)
-      → length (rowOf h (block e P s)) ≡ countOf (block e P s)
-  row-length h root edge v s within f = row-count (block e P s) h (block-room h s within (f .most))
+      → length (itemsOf h (block e P s)) ≡ countOf (block e P s)
+  row-length h root edge v s within f = item-count (block e P s) h (block-room h s within (f .most))
 
 module _ (e : Edition) (p : Proper e) (N : ℕ) (P R : List ℕ) (whole : length P ≡ e .size * N) where
   -- a row that was visited is a row of shaped trees, one for each child
@@ -180,7 +180,7 @@ module _ (e : Edition) (p : Proper e) (N : ℕ) (P R : List ℕ) (whole : length
   -- a tree that was visited has its shape
   pub visit-shaped : (h : ℕ) (role : Role) (edge : Bool) (seen : List ℕ) (s : ℕ) {t : Tree h} {seen′ : List ℕ}
       → visit e N P R h role edge seen s ≡ fine t seen′ → (isRoot role ≡ true → s < N) → ShapedTree e h (isRoot role) edge t
-  unfolding ShapedTree rowOf isRoot
+  unfolding ShapedTree itemsOf isRoot
   visit-shaped zero role edge seen s v root =
       let f = leaf-found e N P R role edge seen s v in
       let within = slot-within N R seen role s (f .link) root in
@@ -245,7 +245,7 @@ module _ (e : Edition) (p : Proper e) (N : ℕ) (P R : List ℕ) (whole : length
   pub visit-leaves : (h : ℕ) (role : Role) (edge : Bool) (seen : List ℕ) (s : ℕ) {t : Tree h} {seen′ : List ℕ}
       → visit e N P R h role edge seen s ≡ fine t seen′ → (isRoot role ≡ true → s < N)
       → (l : ℕ × List ℕ) → List·Memᴰ l (leaves h t) → LeafHere e N P l
-  unfolding leaves rowOf isRoot used mostCount
+  unfolding leaves itemsOf isRoot used mostCount
   visit-leaves zero role edge seen s v root =
       let f = leaf-found e N P R role edge seen s v in
       let within = slot-within N R seen role s (f .link) root in

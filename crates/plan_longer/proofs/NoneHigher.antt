@@ -8,7 +8,7 @@ use native.Mathlib.Omega.{arith}
 use Rattle.meaning.specs.Tree.{Tree, Blob, slotOf}
 use Rattle.laws_resize.specs.growth.Room.{count}
 use Rattle.laws_resize.specs.growth.Sites.{Site, counting, sites, sitesOf, at, sited}
-use Rattle.laws_resize.proofs.growth.Places.{sited-listed}
+use Rattle.laws_resize.proofs.growth.WhereBlocksStand.{sited-listed}
 
 -- the blocks of a row of trees, if it is so of each tree
 row-low : (h : ℕ) → ((i : ℕ) (t : Tree h) (s : ℕ) (x : Site) → List·Memᴰ (s, x) (sites h i t) → x .height ≤ h)

@@ -16,14 +16,14 @@ use Rattle.meaning.specs.Shape.{total}
 use Rattle.meaning.specs.Change.{Change, renewed, changed}
 use Rattle.meaning.specs.Resize.{share, resized}
 use Rattle.meaning.specs.Calls.{usable, become, newBlocks}
-use Rattle.laws.proofs.Codec.{rowOf}
+use Rattle.laws.proofs.Codec.{itemsOf}
 use Rattle.laws.proofs.Inversions.{by-test, both-true}
 use Rattle.laws_resize.specs.growth.Sites.{rootRow}
 use Rattle.laws_resize.specs.growth.Cuts.{heightOfLength}
 use Rattle.laws_resize.specs.growth.Forms.{grownRow, grownNew}
-use Rattle.laws_resize.specs.growth.Slots.{usableBelow, taken, rise, resizedHeld}
+use Rattle.laws_resize.specs.growth.HeldAfter.{usableBelow, taken, rise, resizedHeld}
 use Rattle.laws_resize.proofs.growth.Changes.{change-root, change-old, change-taken, change-other}
-use Rattle.laws_resize.proofs.growth.Resized.{resize-changes}
+use Rattle.laws_resize.proofs.growth.ResizedBySlot.{resize-changes}
 use Rattle.laws_resize.specs.rising.{topAt}
 use Rattle.laws_resize.proofs.rising.Rises.{root-top}
 use Rattle.laws_resize.proofs.rising.Roots.{same-longer}
@@ -43,12 +43,12 @@ use Rattle.plan_longer.specs.Plans.{Numbers, growPlan, growPlans}
 use Rattle.plan_longer.proofs.ReadyToGrow.{root-row, root-count, root-height, noted-at, noted-height, noted-count, noted-share}
 
 -- the same numbers and the same row make the same root, and the same new block
-top-same : (e : Edition) (len : ℕ) (free kept row : List ℕ) (n m t u h i g j : ℕ) → n ≡ m → t ≡ u → h ≡ i → g ≡ j → row ≡ rowOf i kept
-    → topAt e len n t free h (rowOf h kept) g ≡ topAt e len m u free i row j
+top-same : (e : Edition) (len : ℕ) (free kept row : List ℕ) (n m t u h i g j : ℕ) → n ≡ m → t ≡ u → h ≡ i → g ≡ j → row ≡ itemsOf i kept
+    → topAt e len n t free h (itemsOf h kept) g ≡ topAt e len m u free i row j
 top-same e len free kept row n m t u h i g j en et eh eg er = rw (en, et, eh, eg, er)
 
-new-same : (e : Edition) (len : ℕ) (free kept row : List ℕ) (n m g h i k p : ℕ) → n ≡ m → h ≡ i → g - i ≡ k → row ≡ rowOf i kept
-    → grownNew e len n free (g - h) h (rowOf h kept) p ≡ grownNew e len m free k i row p
+new-same : (e : Edition) (len : ℕ) (free kept row : List ℕ) (n m g h i k p : ℕ) → n ≡ m → h ≡ i → g - i ≡ k → row ≡ itemsOf i kept
+    → grownNew e len n free (g - h) h (itemsOf h kept) p ≡ grownNew e len m free k i row p
 new-same e len free kept row n m g h i k p en eh eg er = rw (en, eh, eg, er)
 
 -- a row that gets longer, of a block of that height and count
@@ -108,7 +108,7 @@ module _ (e : Edition) (p : Proper e) (n : ℕ) (P R : List ℕ) (r bytes leaves
   abbrev grownTo : (m s : ℕ) → Cell
   grownTo m s =
       let h = getD hs s 0 - 1 in
-      record { height = h; items = grownRow e (g .length) m free h (getD fs s 0) (rowOf h (block e P s)) }
+      record { height = h; items = grownRow e (g .length) m free h (getD fs s 0) (itemsOf h (block e P s)) }
 
   old-end : (s : ℕ) → oldEnd e g P free hs fs s ≡ grownTo (length (leavesOf b)) s
   unfolding oldEnd
@@ -121,11 +121,11 @@ module _ (e : Edition) (p : Proper e) (n : ℕ) (P R : List ℕ) (r bytes leaves
       let at = noted-at e p n P R r bytes leaves row hs fs k w s noted in
       let count = noted-count e p n P R r bytes leaves row hs fs k w s noted in
       let same =
-      old-same e (g .length) (length (leavesOf b)) free (getD hs s 0 - 1) (getD fs s 0) (rowOf (getD hs s 0 - 1) (block e P s)) (block e P s)
+      old-same e (g .length) (length (leavesOf b)) free (getD hs s 0 - 1) (getD fs s 0) (itemsOf (getD hs s 0 - 1) (block e P s)) (block e P s)
       (sym (noted-height e p n P R r bytes leaves row hs fs k w s noted)) count
       (λ low. omega (arith, count, noted-share e p n P R r bytes leaves row hs fs k w s noted (g .length) long low)) in
       ap (renewal e R s (block e P s)) (old-end s)
-      ∙ renewal-same e R s (block e P s) (record { height = getD hs s 0 - 1; items = rowOf (getD hs s 0 - 1) (block e P s) }) new same
+      ∙ renewal-same e R s (block e P s) (record { height = getD hs s 0 - 1; items = itemsOf (getD hs s 0 - 1) (block e P s) }) new same
       ∙ sym (change-old e p R b (k .standing) free (g .length) longer s _ at (λ q. other (q ∙ k .named)))
 
   -- a usable slot that is taken

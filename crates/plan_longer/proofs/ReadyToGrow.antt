@@ -15,17 +15,17 @@ use Rattle.meaning.specs.Tree.{Blob, leavesOf, lengthOf}
 use Rattle.meaning.specs.Shape.{leavesFor, total, mostCount, Shaped}
 use Rattle.meaning.specs.Resize.{share}
 use Rattle.meaning.specs.Calls.{usable}
-use Rattle.laws.proofs.Codec.{rowOf}
+use Rattle.laws.proofs.Codec.{itemsOf}
 use Rattle.laws.proofs.Inversions.{by-test}
 use Rattle.laws.proofs.Totals.{total-le}
 use Rattle.laws.proofs.Shapes.{shaped-leaves, shaped-height}
 use Rattle.laws.proofs.Walked.{block-length}
 use Rattle.laws.proofs.Ranges.{usable-few}
 use Rattle.laws_resize.specs.growth.Sites.{sitesOf, at, sited, rootRow}
-use Rattle.laws_resize.specs.growth.Slots.{taken}
-use Rattle.laws_resize.proofs.growth.Places.{root-site}
+use Rattle.laws_resize.specs.growth.HeldAfter.{taken}
+use Rattle.laws_resize.proofs.growth.WhereBlocksStand.{root-site}
 use Rattle.laws_resize.proofs.rising.Bounds.{want-some, want-total, power-within}
-use Rattle.laws_resize.proofs.rising.Leaves.{leaf-share, root-most, root-share}
+use Rattle.laws_resize.proofs.rising.HeldByPlace.{leaf-share, root-most, root-share}
 use Rattle.check_blob.proofs.visit.VisitAsDefined.{slot-fits}
 use Rattle.check_gate.specs.Gate.{Whole}
 use Rattle.check_survey.specs.sites.Spelt.{blobAt, siteAt}
@@ -71,7 +71,7 @@ module _ (e : Edition) (p : Proper e) (n : ℕ) (P R : List ℕ) (r bytes leaves
   root-at : sited (sitesOf b) r ≡ at (record { height = b .height; first = 0; items = rootRow b })
   root-at = ap (sited (sitesOf b)) (sym (k .named)) ∙ root-site e p b shaped (k .standing .once)
 
-  pub root-row : rootRow b ≡ rowOf (b .height) (block e P r)
+  pub root-row : rootRow b ≡ itemsOf (b .height) (block e P r)
   root-row = k .fit r _ root-at .1
 
   pub root-count : length (rootRow b) ≡ countOf (block e P r)
@@ -93,7 +93,7 @@ module _ (e : Edition) (p : Proper e) (n : ℕ) (P R : List ℕ) (r bytes leaves
     unfolding siteAt
     noted-most = k .fit s _ noted-at .0 .most
 
-    pub noted-count : length (rowOf (getD hs s 0 - 1) (block e P s)) ≡ countOf (block e P s)
+    pub noted-count : length (itemsOf (getD hs s 0 - 1) (block e P s)) ≡ countOf (block e P s)
     unfolding siteAt
     noted-count = k .fit s _ noted-at .2
 

@@ -12,7 +12,7 @@ use Rattle.meaning.specs.Change.{Change}
 use Rattle.meaning.specs.Tree.{Blob, leavesOf}
 use Rattle.meaning.specs.Shape.{leavesFor, total}
 use Rattle.laws_resize.specs.growth.Cuts.{heightOfLength}
-use Rattle.laws_resize.specs.growth.Slots.{usableBelow, taken}
+use Rattle.laws_resize.specs.growth.HeldAfter.{usableBelow, taken}
 use Rattle.plan_longer.specs.declared.fresh.Growth.{Growth}
 use Rattle.plan_slot.specs.renewal.{renewal}
 use Rattle.plan_longer.specs.declared.towers.Tower.{Tower}

@@ -8,7 +8,7 @@ use Rattle.meaning.specs.declared.Edition.{Edition}
 use Rattle.meaning.specs.Bytes.{Cell, block, countOf, lastVersion}
 use Rattle.meaning.specs.Shape.{mostCount}
 use Rattle.meaning.specs.Resize.{share}
-use Rattle.laws.proofs.Codec.{rowOf}
+use Rattle.laws.proofs.Codec.{itemsOf}
 use Rattle.laws_resize.specs.growth.Forms.{grownRow}
 use Rattle.laws_resize.specs.rising.{topAt}
 use Rattle.plan_longer.specs.declared.fresh.Growth.{Growth}
@@ -33,10 +33,10 @@ pub record Redraws (e : Edition) (b : List ℕ) (c : Cell) (turn : Turn) (payloa
 
 -- what the root holds in the end: kept is its block as it was
 unfoldable pub rootEnd : Edition → Growth → Tower → (free kept : List ℕ) → Cell
-rootEnd e g t free kept = topAt e (g .length) (g .leaves) (t .blocks) free (t .height) (rowOf (t .height) kept) (t .top)
+rootEnd e g t free kept = topAt e (g .length) (g .leaves) (t .blocks) free (t .height) (itemsOf (t .height) kept) (t .top)
 
 -- what another block of the blob holds
 unfoldable pub oldEnd : Edition → Growth → (P free hs fs : List ℕ) → ℕ → Cell
 oldEnd e g P free hs fs s =
     let h = getD hs s 0 - 1 in
-    record { height = h; items = grownRow e (g .length) (g .leaves) free h (getD fs s 0) (rowOf h (block e P s)) }
+    record { height = h; items = grownRow e (g .length) (g .leaves) free h (getD fs s 0) (itemsOf h (block e P s)) }

@@ -9,7 +9,7 @@ use Rattle.meaning.specs.Tree.{Blob, leavesOf, lengthOf}
 use Rattle.meaning.specs.Shape.{total, mostCount, Shaped}
 use Rattle.meaning.specs.Resize.{share}
 use Rattle.laws_resize.specs.growth.Cuts.{heightOfLength}
-use Rattle.laws_resize.specs.growth.Slots.{taken}
+use Rattle.laws_resize.specs.growth.HeldAfter.{taken}
 use Rattle.plan_longer.specs.declared.fresh.Growth.{Growth}
 use Rattle.plan_longer.specs.declared.towers.Tower.{Tower}
 

@@ -15,7 +15,7 @@ ghost use Rattle.meaning.specs.Edition.{Proper};
 ghost use Rattle.meaning.specs.Bytes.{countOf, dataOf, childrenOf};
 ghost use Rattle.meaning.specs.Shape.{mostCount};
 ghost use Rattle.meaning.specs.Resize.{share};
-ghost use Rattle.laws.proofs.Codec.{rowOf};
+ghost use Rattle.laws.proofs.Codec.{itemsOf};
 ghost use Rattle.laws_resize.specs.growth.Forms.{every, bulk, room, space, places, grownRow};
 ghost use Rattle.plan_slot.specs.payload.{Draws};
 ghost use Rattle.plan_longer.specs.fresh.{Grows};
@@ -96,7 +96,7 @@ pub fn draw_grown(
     requires { ⌜ Grows e g ⌝ }
     requires { ⌜ (length (now payload) ≡ e .leaf) × (h < 256) × (e .fan ^ h ≤ 2 ^ 50) × (first ≤ 2 ^ 50) ⌝ }
     requires { ⌜ (length (now block) ≡ e .size) × (countOf (now block) ≤ mostCount e h) × (h ≡ 0 → countOf (now block) ≤ share e (g .length) first) ⌝ }
-    ensures { λ r. ⌜ Draws e (record { height = h; items = grownRow e (g .length) (g .leaves) (now (free .entry)) h first (rowOf h (now (block .entry))) }) r (now (payload .exit)) ⌝ }
+    ensures { λ r. ⌜ Draws e (record { height = h; items = grownRow e (g .length) (g .leaves) (now (free .entry)) h first (itemsOf h (now (block .entry))) }) r (now (payload .exit)) ⌝ }
 {
     if h == 0 {
         return grown_leaf(e, g.length, block, payload, first);

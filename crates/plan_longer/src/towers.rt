@@ -9,7 +9,7 @@ ghost use mathlib.Core.Path.{_≡_};
 ghost use Prim.Native.Nat.{_≤_};
 ghost use lib.ListN.{length};
 ghost use Rattle.meaning.specs.Edition.{Proper};
-ghost use Rattle.laws.proofs.Codec.{rowOf};
+ghost use Rattle.laws.proofs.Codec.{itemsOf};
 ghost use Rattle.laws_resize.specs.rising.{topAt};
 ghost use Rattle.plan_slot.specs.payload.{Draws};
 ghost use Rattle.plan_longer.specs.fresh.{Grows};
@@ -38,7 +38,7 @@ pub fn draw_top(
     requires { ⌜ Towers e g t ⌝ }
     requires { ⌜ RootBlock e g t (now kept) ⌝ }
     requires { ⌜ (length (now payload) ≡ e .leaf) × (t .height ≤ level) × (level ≤ t .top) ⌝ }
-    ensures { λ r. ⌜ Draws e (topAt e (g .length) (g .leaves) (t .blocks) (now (free .entry)) (t .height) (rowOf (t .height) (now (kept .entry))) level) r (now (payload .exit)) ⌝ }
+    ensures { λ r. ⌜ Draws e (topAt e (g .length) (g .leaves) (t .blocks) (now (free .entry)) (t .height) (itemsOf (t .height) (now (kept .entry))) level) r (now (payload .exit)) ⌝ }
 {
     if level == t.height {
         return extended::draw_grown(e, g, free, kept, payload, level, 0);

@@ -12,7 +12,7 @@ use Rattle.meaning.specs.Lists.{pick, both}
 use Rattle.meaning.specs.Bytes.{block, countOf, lastVersion}
 use Rattle.meaning.specs.Change.{Change, freed}
 use Rattle.meaning.specs.Shape.{mostCount}
-use Rattle.laws.proofs.Codec.{rowOf}
+use Rattle.laws.proofs.Codec.{itemsOf}
 use Rattle.laws_resize.specs.growth.Cuts.{cutRow}
 use Rattle.plan_slot.specs.declared.turn.Turn.{Turn}
 use Rattle.plan_slot.specs.declared.turn.Turn.the-variants.{Stays, Goes}
@@ -63,7 +63,7 @@ module _ (e : Edition) (c : Cut) (hs fs kept : List ℕ) (root : ℕ) (P : List 
   module _ (noted : getD hs s 0 ≡ 0 → ⊥) where
     -- the root's
     pub plan-root : s ≡ root → (b : List ℕ) → b ≡ block e P s → (t : Turn)
-        → ((R : List ℕ) (u : ℕ) → turned e R u t x ≡ renewal e R u b (record { height = c .top; items = cutRow e (c .length) (c .top) 0 (rowOf (c .top) kept) }))
+        → ((R : List ℕ) (u : ℕ) → turned e R u t x ≡ renewal e R u b (record { height = c .top; items = cutRow e (c .length) (c .top) 0 (itemsOf (c .top) kept) }))
         → (R : List ℕ) → turned e R s t x ≡ cutPlan e c hs fs kept root P R s
     unfolding cutPlan rootEnd pick
     plan-root is b eb t all R = rw (ne-eqb (getD hs s 0) 0 noted, eq-eqb s root is) (all R s ∙ rw eb)
@@ -84,7 +84,7 @@ module _ (e : Edition) (c : Cut) (hs fs kept : List ℕ) (root : ℕ) (P : List 
 
       -- one that stays
       pub plan-old : g ≡ false → (b : List ℕ) → b ≡ block e P s → (t : Turn)
-          → ((R : List ℕ) (u : ℕ) → turned e R u t x ≡ renewal e R u b (record { height = h; items = cutRow e (c .length) h first (rowOf h b) }))
+          → ((R : List ℕ) (u : ℕ) → turned e R u t x ≡ renewal e R u b (record { height = h; items = cutRow e (c .length) h first (itemsOf h b) }))
           → (R : List ℕ) → turned e R s t x ≡ cutPlan e c hs fs kept root P R s
       unfolding oldEnd pick
       plan-old is b eb t all R = all R s ∙ sym (by-gone R ∙ rw (is, eb, eh, ef))

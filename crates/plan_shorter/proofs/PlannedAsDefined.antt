@@ -16,15 +16,15 @@ use Rattle.meaning.specs.Change.{Change, freed, changed}
 use Rattle.meaning.specs.Resize.{resized}
 use Rattle.meaning.specs.Calls.{usable, become}
 use Rattle.laws.proofs.Inversions.{by-test}
-use Rattle.laws.proofs.Codec.{rowOf}
+use Rattle.laws.proofs.Codec.{itemsOf}
 use Rattle.laws_resize.proofs.resizing.Resized.{none-new}
 use Rattle.laws_resize.specs.growth.Sites.{Site, sitesOf, sited, at, rootRow}
 use Rattle.laws_resize.specs.growth.Cuts.{cutRow, heightOfLength, shortened, leftmost}
-use Rattle.laws_resize.specs.growth.Slots.{shorterRoot, resizedHeld}
+use Rattle.laws_resize.specs.growth.HeldAfter.{shorterRoot, resizedHeld}
 use Rattle.laws_resize.proofs.growth.Changes.{cut-root, cut-kept, cut-gone, cut-other}
-use Rattle.laws_resize.proofs.growth.Steps.{short-gone, short-replaced, short-off, short-low}
-use Rattle.laws_resize.proofs.growth.Places.{left-site, root-site}
-use Rattle.laws_resize.proofs.growth.Resized.{resize-changes}
+use Rattle.laws_resize.proofs.growth.FormsByCases.{short-gone, short-replaced, short-off, short-low}
+use Rattle.laws_resize.proofs.growth.WhereBlocksStand.{left-site, root-site}
+use Rattle.laws_resize.proofs.growth.ResizedBySlot.{resize-changes}
 use Rattle.laws_resize.proofs.rising.Bounds.{shorter-height}
 use Rattle.laws_resize.proofs.rising.SameByCount.{same-cut}
 use Rattle.laws_resize.proofs.rising.Roots.{shorter-is, same-shorter}
@@ -50,12 +50,12 @@ module _ (e : Edition) (p : Proper e) (n : ℕ) (P R : List ℕ) (r len k : ℕ)
     top-low = omega (arith, q .top, shorter-height e p b (g .standing .shaped) (c .length) short)
 
     -- its row is the one that the definitions cut
-    kept-row : rowOf (c .top) kept ≡ leftmost (b .height) (b .height - c .top) (b .tree) .1
+    kept-row : itemsOf (c .top) kept ≡ leftmost (b .height) (b .height - c .top) (b .tree) .1
     kept-row =
         let s = leftmost (b .height) (b .height - c .top) (b .tree) .0 in
         let z : b .height - (b .height - c .top) ≡ c .top = omega (arith, top-low) in
         let site = left-site e p b (g .standing .shaped) (g .standing .once) (b .height - c .top) (omega arith) in
-        rw ek (ap (λ (h : ℕ). rowOf h (block e P s)) (sym z) ∙ sym (g .fit s _ site .1))
+        rw ek (ap (λ (h : ℕ). itemsOf h (block e P s)) (sym z) ∙ sym (g .fit s _ site .1))
 
     -- so the root holds in the end what the definitions say
     root-end : rootEnd e c hs fs kept r P R ≡ shorterRoot e b (c .length)
@@ -106,7 +106,7 @@ module _ (e : Edition) (p : Proper e) (n : ℕ) (P R : List ℕ) (r len k : ℕ)
         kept-same stays =
             let f = g .fit s site found in
             let h = getD hs s 0 - 1 in
-            let old = rowOf h (block e P s) in
+            let old = itemsOf h (block e P s) in
             let new = cutRow e (c .length) h (getD fs s 0) old in
             let same : sameCell (record { height = h; items = old }) (record { height = h; items = new })
             ≡ both (eqb h (heightOf (block e P s))) (eqb (length new) (countOf (block e P s))) =

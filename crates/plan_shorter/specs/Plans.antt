@@ -10,7 +10,7 @@ use Rattle.meaning.specs.Lists.{pick, both}
 use Rattle.meaning.specs.Bytes.{Cell, block, countOf, lastVersion}
 use Rattle.meaning.specs.Change.{Change, freed}
 use Rattle.meaning.specs.Shape.{mostCount}
-use Rattle.laws.proofs.Codec.{rowOf}
+use Rattle.laws.proofs.Codec.{itemsOf}
 use Rattle.laws_resize.specs.growth.Cuts.{cutRow}
 use Rattle.plan_slot.specs.declared.turn.Turn.{Turn}
 use Rattle.plan_slot.specs.turn.{Rises}
@@ -37,13 +37,13 @@ pub record Rising (hs : List ℕ) (s : ℕ) (t : Turn) : Type 0 where
 module _ (e : Edition) (c : Cut) (hs fs kept : List ℕ) (root : ℕ) (P R : List ℕ) where
   -- what the root holds in the end
   unfoldable pub rootEnd : Cell
-  rootEnd = record { height = c .top; items = cutRow e (c .length) (c .top) 0 (rowOf (c .top) kept) }
+  rootEnd = record { height = c .top; items = cutRow e (c .length) (c .top) 0 (itemsOf (c .top) kept) }
 
   -- what another block of the blob holds that stays
   unfoldable pub oldEnd : ℕ → Cell
   oldEnd s =
       let h = getD hs s 0 - 1 in
-      record { height = h; items = cutRow e (c .length) h (getD fs s 0) (rowOf h (block e P s)) }
+      record { height = h; items = cutRow e (c .length) h (getD fs s 0) (itemsOf h (block e P s)) }
 
   -- what slot s becomes: past the cut, or where the root comes down, its block goes
   unfoldable pub cutPlan : ℕ → List Change

@@ -11,7 +11,7 @@ ghost use lib.ListN.{length, take};
 ghost use Rattle.meaning.specs.Edition.{Proper};
 ghost use Rattle.meaning.specs.Bytes.{countOf, dataOf, childrenOf};
 ghost use Rattle.meaning.specs.Shape.{up, leavesFor, mostCount};
-ghost use Rattle.laws.proofs.Codec.{rowOf};
+ghost use Rattle.laws.proofs.Codec.{itemsOf};
 ghost use Rattle.laws_resize.specs.growth.Cuts.{cutRow};
 ghost use Rattle.plan_slot.specs.payload.{Draws};
 
@@ -69,7 +69,7 @@ pub fn draw_cut(
     requires { ⌜ (leaves ≡ leavesFor (e .leaf) short) × (leaves ≤ 2 ^ 50) ⌝ }
     requires { ⌜ (length (now payload) ≡ e .leaf) × (h < 256) × (e .fan ^ h ≤ 2 ^ 50) × (first ≤ 2 ^ 50) ⌝ }
     requires { ⌜ (length (now block) ≡ e .size) × (countOf (now block) ≤ mostCount e h) ⌝ }
-    ensures { λ r. ⌜ Draws e (record { height = h; items = cutRow e short h first (rowOf h (now (block .entry))) }) r (now (payload .exit)) ⌝ }
+    ensures { λ r. ⌜ Draws e (record { height = h; items = cutRow e short h first (itemsOf h (now (block .entry))) }) r (now (payload .exit)) ⌝ }
 {
     if h == 0 {
         return cut_leaf(e, short, block, payload, first);

@@ -53,15 +53,15 @@ pub fn copy_payload(payload: &mut [u8], block: &[u8], used: usize)
 }
 
 // How many bytes of a length the i-th leaf holds.
-pub fn share_of(e: Edition, length: usize, i: usize) -> usize
+pub fn share_of(e: Edition, len: usize, i: usize) -> usize
     requires { ⌜ Proper e ⌝ }
     requires { ⌜ i ≤ 2 ^ 50 ⌝ }
-    ensures { λ r. ⌜ (r ≡ share e length i) × (r ≤ e .leaf) ⌝ }
+    ensures { λ r. ⌜ (r ≡ share e len i) × (r ≤ e .leaf) ⌝ }
 {
     let start = e.leaf * i;
-    if length <= start {
+    if len <= start {
         return 0;
     }
-    let left = length - start;
+    let left = len - start;
     if left < e.leaf { left } else { e.leaf }
 }

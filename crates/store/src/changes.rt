@@ -72,8 +72,8 @@ pub fn write(pool: &mut [u8], records: &mut [u8], root: u64, offset: u64, src: &
 }
 
 // A blob gets another length: cut, or filled with zeros.
-pub fn resize(pool: &mut [u8], records: &mut [u8], root: u64, length: u64) -> Changed
-    ensures { λ r. ⌜ Ends one changeAnswer (resizeCall one (now (pool .entry)) (now (records .entry)) root length) (now (pool .entry)) (now (records .entry)) r (now (pool .exit)) (now (records .exit)) ⌝ }
+pub fn resize(pool: &mut [u8], records: &mut [u8], root: u64, len: u64) -> Changed
+    ensures { λ r. ⌜ Ends one changeAnswer (resizeCall one (now (pool .entry)) (now (records .entry)) root len) (now (pool .entry)) (now (records .entry)) r (now (pool .exit)) (now (records .exit)) ⌝ }
 {
     let e = meaning::edition_one();
     let mut seen = [0u8; 1024];
@@ -95,6 +95,6 @@ pub fn resize(pool: &mut [u8], records: &mut [u8], root: u64, length: u64) -> Ch
         &mut payload,
         &mut scratch,
         root,
-        length,
+        len,
     )
 }

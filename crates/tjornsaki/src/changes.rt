@@ -44,12 +44,12 @@ pub extern "C" fn tj_resize(
     pool: &mut [u8],
     records: &mut [u8],
     root: u64,
-    length: u64,
+    len: u64,
     answer: &mut [u64; 8],
 )
-    ensures { λ _. ⌜ Ends one changeNumbers (resizeCall one (now (pool .entry)) (now (records .entry)) root length) (now (pool .entry)) (now (records .entry)) (now (answer .exit)) (now (pool .exit)) (now (records .exit)) ⌝ }
+    ensures { λ _. ⌜ Ends one changeNumbers (resizeCall one (now (pool .entry)) (now (records .entry)) root len) (now (pool .entry)) (now (records .entry)) (now (answer .exit)) (now (pool .exit)) (now (records .exit)) ⌝ }
 {
-    let x = store::changes::resize(pool, records, root, length);
+    let x = store::changes::resize(pool, records, root, len);
     answers::put_changed(answer, x)
 }
 

@@ -1,5 +1,5 @@
 -- By cases: the count, or the refusal.
-use Rattle.answers.proofs.Cases.{audit-live, audit-refused}
+use Rattle.answers.proofs.NumbersOfAnswers.{audit-live, audit-refused}
 use borrow.Author.Needs.{needs}
 use Rattle.answers.proofs.put_audit.Statement.{statement}
 use Rattle.answers.proofs.put_audit.Tie as tie

@@ -1,5 +1,5 @@
 -- By cases: no value, or the refusal.
-use Rattle.answers.proofs.Cases.{changed-done, changed-refused}
+use Rattle.answers.proofs.NumbersOfAnswers.{changed-done, changed-refused}
 use borrow.Author.Needs.{needs}
 use Rattle.answers.proofs.put_changed.Statement.{statement}
 use Rattle.answers.proofs.put_changed.Tie as tie

@@ -1,5 +1,5 @@
 -- By cases: the slot, or the refusal.
-use Rattle.answers.proofs.Cases.{created-at, created-refused}
+use Rattle.answers.proofs.NumbersOfAnswers.{created-at, created-refused}
 use borrow.Author.Needs.{needs}
 use Rattle.answers.proofs.put_created.Statement.{statement}
 use Rattle.answers.proofs.put_created.Tie as tie

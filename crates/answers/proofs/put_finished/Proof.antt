@@ -1,5 +1,5 @@
 -- By cases: no value, or the refusal.
-use Rattle.answers.proofs.Cases.{finished-done, finished-refused}
+use Rattle.answers.proofs.NumbersOfAnswers.{finished-done, finished-refused}
 use borrow.Author.Needs.{needs}
 use Rattle.answers.proofs.put_finished.Statement.{statement}
 use Rattle.answers.proofs.put_finished.Tie as tie

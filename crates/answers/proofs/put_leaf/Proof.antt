@@ -1,5 +1,5 @@
 -- By cases: start and count, or the refusal.
-use Rattle.answers.proofs.Cases.{leaf-at, leaf-refused}
+use Rattle.answers.proofs.NumbersOfAnswers.{leaf-at, leaf-refused}
 use borrow.Author.Needs.{needs}
 use Rattle.answers.proofs.put_leaf.Statement.{statement}
 use Rattle.answers.proofs.put_leaf.Tie as tie

@@ -1,5 +1,5 @@
 -- By cases: the length, or the refusal.
-use Rattle.answers.proofs.Cases.{length-is, length-refused}
+use Rattle.answers.proofs.NumbersOfAnswers.{length-is, length-refused}
 use borrow.Author.Needs.{needs}
 use Rattle.answers.proofs.put_length.Statement.{statement}
 use Rattle.answers.proofs.put_length.Tie as tie

@@ -1,5 +1,5 @@
 -- The refusal's number, and its slot as a number.
-use Rattle.answers.proofs.Cases.{put-refusal}
+use Rattle.answers.proofs.NumbersOfAnswers.{put-refusal}
 use borrow.Author.Needs.{needs}
 use Rattle.answers.proofs.put_refusal.Statement.{statement}
 use Rattle.answers.proofs.put_refusal.Tie as tie

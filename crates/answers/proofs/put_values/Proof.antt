@@ -1,5 +1,5 @@
 -- The array as it is written.
-use Rattle.answers.proofs.Cases.{put-values}
+use Rattle.answers.proofs.NumbersOfAnswers.{put-values}
 use Rattle.answers.proofs.put_values.Statement.{statement}
 use Rattle.answers.proofs.put_values.Tie as tie
 

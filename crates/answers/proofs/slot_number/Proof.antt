@@ -1,5 +1,5 @@
 -- By cases.
-use Rattle.answers.proofs.Cases.{number-nowhere, number-slot}
+use Rattle.answers.proofs.NumbersOfAnswers.{number-nowhere, number-slot}
 use borrow.Author.Needs.{needs}
 use Rattle.answers.proofs.slot_number.Statement.{statement}
 use Rattle.answers.proofs.slot_number.Tie as tie

@@ -4,7 +4,7 @@ use mathlib.Core.Path.{_≡_}
 use native.Mathlib.Omega.{arith}
 use Prim.Native.Nat.{_-_, _≤_}
 use lib.ListN.{length}
-use Rattle.laws_resize.specs.growth.Slots.{usableBelow}
+use Rattle.laws_resize.specs.growth.HeldAfter.{usableBelow}
 use Rattle.plan_longer.specs.Plans.{growPlans}
 use Rattle.call_resize.proofs.longer_slots.TurnsAsPlanned.{below-start, below-more}
 use Rattle.call_count.proofs.Counts.{Counting, counting-start, counting-fits, counting-on, counting-end, counting-most, grow-one, grow-here, grow-line}

@@ -14,7 +14,7 @@ use Rattle.meaning.specs.Calls.{usable}
 use Rattle.laws.proofs.Totals.{total-le, total-ge}
 use Rattle.laws.proofs.Ranges.{usable-few}
 use Rattle.laws_resize.specs.growth.Cuts.{heightOfLength}
-use Rattle.laws_resize.specs.growth.Slots.{taken}
+use Rattle.laws_resize.specs.growth.HeldAfter.{taken}
 use Rattle.laws_resize.proofs.rising.Bounds.{longer-leaves}
 use Rattle.check_gate.specs.Gate.{Whole}
 use Rattle.check_blob.proofs.visit.VisitAsDefined.{slot-fits}

@@ -12,7 +12,7 @@ use Rattle.meaning.specs.declared.Edition.{Edition}
 use Rattle.meaning.specs.Lists.{pick, range, filter}
 use Rattle.meaning.specs.Bytes.{state, recorded, usableSlot}
 use Rattle.meaning.specs.Change.{Change, puts, renewed}
-use Rattle.laws_resize.specs.growth.Slots.{usableBelow}
+use Rattle.laws_resize.specs.growth.HeldAfter.{usableBelow}
 use Rattle.check_blob.proofs.visit.VisitAsDefined.{slot-fits}
 use Rattle.check_gate.specs.Gate.{Whole}
 use Rattle.plan_slot.specs.change.Places.{Places}

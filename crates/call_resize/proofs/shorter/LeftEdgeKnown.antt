@@ -9,12 +9,12 @@ use Rattle.meaning.specs.Lists.{part, number}
 use Rattle.meaning.specs.Edition.{Proper}
 use Rattle.meaning.specs.Bytes.{block, countOf, childrenOf}
 use Rattle.meaning.specs.Tree.{Blob}
-use Rattle.laws.proofs.Codec.{rowOf}
+use Rattle.laws.proofs.Codec.{itemsOf}
 use Rattle.check_blob.proofs.visit.VisitAsDefined.{slot-fits}
 use Rattle.check_gate.specs.Gate.{Whole}
 use Rattle.laws_resize.specs.growth.Cuts.{leftmost}
 use Rattle.laws_resize.specs.growth.Forms.{past}
-use Rattle.laws_resize.proofs.growth.Places.{left-site, left-root, left-step}
+use Rattle.laws_resize.proofs.growth.WhereBlocksStand.{left-site, left-root, left-step}
 use Rattle.check_survey.specs.sites.Spelt.{blobAt}
 use Rattle.check_survey.specs.sites.Known.{Known}
 use Rattle.check_blob.proofs.notes.WalkAsDefined.{fours-first}
@@ -29,8 +29,8 @@ none-past : (row : List ℕ) → length row ≡ 0 → getD row 0 past ≡ past
 none-past [] z = refl
 none-past (x ∷ row) z = absurd (omega arith)
 
-inner-row : (h : ℕ) (b : List ℕ) → 1 ≤ h → rowOf h b ≡ childrenOf b
-unfolding rowOf
+inner-row : (h : ℕ) (b : List ℕ) → 1 ≤ h → itemsOf h b ≡ childrenOf b
+unfolding itemsOf
 inner-row zero b low = absurd (omega arith)
 inner-row (suc h) b low = refl
 

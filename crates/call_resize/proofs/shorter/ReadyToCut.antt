@@ -26,7 +26,7 @@ use Rattle.check_gate.specs.Gate.{Whole}
 use Rattle.laws_resize.specs.growth.Sites.{Site, sitesOf, sited, at}
 use Rattle.laws_resize.specs.growth.Cuts.{heightOfLength, leftmost}
 use Rattle.laws_resize.proofs.growth.Changes.{held-at, cellAt}
-use Rattle.laws_resize.proofs.growth.Places.{left-site}
+use Rattle.laws_resize.proofs.growth.WhereBlocksStand.{left-site}
 use Rattle.laws_resize.proofs.rising.Bounds.{power-within, want-some, shorter-leaves, shorter-height}
 use Rattle.check_survey.specs.sites.Spelt.{blobAt, siteAt}
 use Rattle.check_survey.specs.sites.Known.{Known}

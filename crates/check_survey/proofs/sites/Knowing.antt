@@ -25,8 +25,8 @@ use Rattle.check_blob.specs.notes.{Noted, met, putAll, noteLeaves, noteTree, no
 use Rattle.check_pool.specs.roots.{kept, noteIfNamed, noteNamed, poolNoted}
 use Rattle.check_blob.proofs.notes.Answering.{noted-fault, noted-fine}
 use Rattle.laws_resize.specs.growth.Sites.{sitesOf}
-use Rattle.laws_resize.proofs.growth.Resized.{Standing}
-use Rattle.laws_resize.proofs.growth.Pools.{pool-standing}
+use Rattle.laws_resize.proofs.growth.ResizedBySlot.{Standing}
+use Rattle.laws_resize.proofs.growth.ListedBlobsStand.{pool-standing}
 use Rattle.check_blob.proofs.notes.Putting.{put-there, put-length}
 use Rattle.check_survey.specs.sites.Spelt.{blobAt}
 use Rattle.check_survey.specs.sites.Marks.{tall, begin, Marked, SitesStart}

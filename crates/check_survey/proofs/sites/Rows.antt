@@ -13,7 +13,7 @@ use Rattle.meaning.specs.Edition.{Proper}
 use Rattle.meaning.specs.Bytes.{block, heightOf, countOf, childrenOf}
 use Rattle.meaning.specs.Tree.{slotOf, leaves, slotsOf}
 use Rattle.laws.proofs.Inversions.{by-test}
-use Rattle.laws.proofs.Codec.{rowOf, row-count}
+use Rattle.laws.proofs.Codec.{itemsOf, item-count}
 use Rattle.laws.proofs.Walked.{block-room}
 use Rattle.laws.proofs.Every.{Every, every-append}
 use Rattle.laws_resize.specs.growth.Sites.{Site, counting, sites, sitesOf, Sited, absent, at, sited, Lacks, Once}
@@ -62,7 +62,7 @@ puts-said f (x ∷ xs) l s once low =
 -- what lies in the slot of a site of a spelt tree
 pub record Here (e : Edition) (n : ℕ) (P : List ℕ) (s : ℕ) (x : Site) : Type 0 where
   pub fit : Fit e n P (x .height) s
-  pub items : x .items ≡ rowOf (x .height) (block e P s)
+  pub items : x .items ≡ itemsOf (x .height) (block e P s)
 
 -- a site that is found has what each has
 every-sited : (Q : ℕ → Site → Type 0) (xs : List (ℕ × Site)) (s : ℕ) (x : Site) → Every (λ y. Q (y .0) (y .1)) xs → sited xs s ≡ at x → Q s x
@@ -99,7 +99,7 @@ module _ (e : Edition) (n : ℕ) (P : List ℕ) where
 
   -- each site of a tree
   tree-here : (h i s : ℕ) → Inside e P n h s → Every (λ y. Here e n P (y .0) (y .1)) (sites h i (treeAt e P h s))
-  unfolding sites treeAt Inside rowOf
+  unfolding sites treeAt Inside itemsOf
   tree-here zero i s a = (record { fit = a; items = refl }, tt)
   tree-here (suc h) i s a =
       (record { fit = a .0; items = row-slots h (childrenOf (block e P s)) }, row-here h (tree-here h) i (childrenOf (block e P s)) (a .1))
@@ -118,7 +118,7 @@ module _ (e : Edition) (n : ℕ) (P : List ℕ) where
         → length (x .items) ≡ countOf (block e P s)
     site-count p whole s x q =
         let a = site-here s x q in
-        ap length (a .items) ∙ row-count (block e P s) (x .height) (block-room e p n P whole (x .height) s (a .fit .within) (a .fit .most))
+        ap length (a .items) ∙ item-count (block e P s) (x .height) (block-room e p n P whole (x .height) s (a .fit .within) (a .fit .most))
 
     low-slots : (m : ℕ) → m ≡ n → (xs : List (ℕ × Site)) → Every (λ y. Here e n P (y .0) (y .1)) xs → Every (λ y. y .0 < m) xs
     low-slots m q [] a = tt

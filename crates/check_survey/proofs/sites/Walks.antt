@@ -26,7 +26,7 @@ use Rattle.laws.proofs.Heights.{height-least}
 use Rattle.laws.proofs.Shapes.{shaped-height, shaped-blocks}
 use Rattle.laws.proofs.Roots.{walk-root, roots-root, roots-other}
 use Rattle.laws.proofs.Every.{Every}
-use Rattle.laws_resize.proofs.growth.Pools.{range-below}
+use Rattle.laws_resize.proofs.growth.ListedBlobsStand.{range-below}
 use Rattle.check_survey.specs.sites.Spelt.{treeAt, blobAt, Inside}
 use Rattle.check_survey.specs.sites.Marks.{SitesStart}
 use Rattle.check_survey.proofs.sites.Bounds.{inside-fit}

@@ -8,9 +8,9 @@ use Rattle.meaning.specs.Bytes.{block, countOf, state}
 use Rattle.meaning.specs.Tree.{Blob, rootOf, leavesOf, lengthOf}
 use Rattle.meaning.specs.Walk.{fine, poolCheck}
 use Rattle.laws.proofs.Walked.{leafSlots}
-use Rattle.laws.proofs.Codec.{rowOf}
+use Rattle.laws.proofs.Codec.{itemsOf}
 use Rattle.laws_resize.specs.growth.Sites.{Site, sitesOf, absent, at, sited}
-use Rattle.laws_resize.proofs.growth.Resized.{Standing}
+use Rattle.laws_resize.proofs.growth.ResizedBySlot.{Standing}
 use Rattle.check_survey.specs.sites.Spelt.{Fit, blobAt, siteAt}
 
 -- the rows of heights and firsts say where each slot's block stands in the blob; a place with 0 is no block of it
@@ -42,4 +42,4 @@ pub record Known (e : Edition) (n : ℕ) (P R : List ℕ) (r len k : ℕ) (row h
   pub sites : Sites e n P (blobAt e P r) hs fs
   -- what lies in the slots of its blocks
   pub fit : (s : ℕ) (x : Site) → sited (sitesOf (blobAt e P r)) s ≡ at x
-      → Fit e n P (x .height) s × (x .items ≡ rowOf (x .height) (block e P s)) × (length (x .items) ≡ countOf (block e P s))
+      → Fit e n P (x .height) s × (x .items ≡ itemsOf (x .height) (block e P s)) × (length (x .items) ≡ countOf (block e P s))

@@ -9,7 +9,7 @@ use Rattle.meaning.specs.Lists.{joined}
 use Rattle.meaning.specs.Bytes.{block, heightOf, countOf, dataOf, childrenOf}
 use Rattle.meaning.specs.Tree.{Tree, Blob, leaves}
 use Rattle.meaning.specs.Shape.{mostCount}
-use Rattle.laws.proofs.Codec.{rowOf}
+use Rattle.laws.proofs.Codec.{itemsOf}
 use Rattle.laws.proofs.Every.{Every}
 use Rattle.laws_resize.specs.growth.Sites.{Site, counting, sites}
 
@@ -49,4 +49,4 @@ module _ (e : Edition) (P : List ℕ) where
 
   -- where the block of a slot stands, by what was noted of it: its height and one more, and its first leaf's number
   unfoldable pub siteAt : (s tall first : ℕ) → Site
-  siteAt s tall first = record { height = tall - 1; first = first; items = rowOf (tall - 1) (block e P s) }
+  siteAt s tall first = record { height = tall - 1; first = first; items = itemsOf (tall - 1) (block e P s) }

@@ -7,7 +7,7 @@ use lib.ListN.{length, getD, length-append}
 use Rattle.meaning.specs.Lists.{joined}
 use Rattle.meaning.specs.Tree.{Tree, cells}
 use Rattle.laws_resize.specs.growth.Forms.{past}
-use Rattle.laws_resize.specs.growth.Grow.{rowOf, fresh, overLast, fill, wider, higher, grow}
+use Rattle.laws_resize.specs.growth.Grow.{itemsOf, fresh, overLast, fill, wider, higher, grow}
 use Rattle.laws_resize.specs.growth.Made.{rowCells, upToLast, made, higherMade, growMade}
 use Rattle.laws_resize.proofs.growth.Grow.{Ends, none, last, ends}
 use Rattle.laws_resize.proofs.growth.Held.{rowCells-append, fill-row, made-row, moved-cells, top-cells, below}
@@ -27,7 +27,7 @@ fill-blocks-row : (fan h : ℕ) → ((lens free : List ℕ) (t : Tree h) → len
 unfolding cells joined
 fill-blocks-row fan h ih lens free k l none = fill-blocks-none fan h lens free k
 fill-blocks-row fan h ih lens free k l (last xs x) =
-    let new : List (Tree h) = rowOf (fresh fan h) (fan - length (xs ++ x ∷ [])) (fill fan h lens free x .1) (fill fan h lens free x .2) .0 in
+    let new : List (Tree h) = itemsOf (fresh fan h) (fan - length (xs ++ x ∷ [])) (fill fan h lens free x .1) (fill fan h lens free x .2) .0 in
     rw (
       fill-row fan h lens free k xs x new refl,
       made-row fan h lens free k xs x new refl,

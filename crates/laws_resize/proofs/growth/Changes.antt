@@ -19,11 +19,11 @@ use Rattle.laws.proofs.Inversions.{by-test, both-true, true-both, same-self}
 use Rattle.laws_resize.specs.growth.Sites.{Site, sitesOf, Sited, absent, at, sited, heldBy, same, rootRow}
 use Rattle.laws_resize.specs.growth.Cuts.{written, rewritten, shortened}
 use Rattle.laws_resize.specs.growth.Forms.{grownRow, grown, grownRoot, grownNew}
-use Rattle.laws_resize.specs.growth.Slots.{usableBelow, writtenHeld, shorterRoot, shorterHeld, taken, rise, longerHeld, resizedHeld}
+use Rattle.laws_resize.specs.growth.HeldAfter.{usableBelow, writtenHeld, shorterRoot, shorterHeld, taken, rise, longerHeld, resizedHeld}
 use Rattle.laws_resize.proofs.growth.Sites.{held-site}
-use Rattle.laws_resize.proofs.growth.Places.{root-site}
+use Rattle.laws_resize.proofs.growth.WhereBlocksStand.{root-site}
 use Rattle.laws_resize.proofs.growth.Usable.{usable-free}
-use Rattle.laws_resize.proofs.growth.Resized.{Standing}
+use Rattle.laws_resize.proofs.growth.ResizedBySlot.{Standing}
 
 -- a cell is the same as itself
 same-cell : (c : Cell) → sameCell c c ≡ true

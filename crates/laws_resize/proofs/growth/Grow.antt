@@ -13,7 +13,7 @@ use Rattle.laws_resize.proofs.resizing.Ends.{ofLast-snoc, onLast-snoc}
 use Rattle.meaning.specs.Lists.{pick, ofLast}
 use Rattle.meaning.specs.Tree.{Tree}
 use Rattle.meaning.specs.Resize.{lowest, chain, roomy, hang}
-use Rattle.laws_resize.specs.growth.Grow.{rowOf, fresh, overLast, fill}
+use Rattle.laws_resize.specs.growth.Grow.{itemsOf, fresh, overLast, fill}
 
 -- a list is empty or has a last element
 pub data Ends {A : Type 0} : List A → Type 0 where
@@ -39,14 +39,14 @@ module _ {A : Type 0} where
   overLast-last f lens free (y ∷ (z ∷ ys)) x = rw (overLast-last f lens free (z ∷ ys) x)
 
   -- a row of new elements: none if no length is left, and else one more
-  pub rowOf-none : (f : List ℕ → List ℕ → A × List ℕ × List ℕ) (k : ℕ) (free : List ℕ) → rowOf f k [] free ≡ ([], [], free)
-  unfolding rowOf
+  pub rowOf-none : (f : List ℕ → List ℕ → A × List ℕ × List ℕ) (k : ℕ) (free : List ℕ) → itemsOf f k [] free ≡ ([], [], free)
+  unfolding itemsOf
   rowOf-none f zero free = refl
   rowOf-none f (suc k) free = refl
 
   rowOf-more : (f : List ℕ → List ℕ → A × List ℕ × List ℕ) (k l : ℕ) (ls free : List ℕ) {a : A × List ℕ × List ℕ} → f (l ∷ ls) free ≡ a
-      → rowOf f (suc k) (l ∷ ls) free ≡ (a .0 ∷ rowOf f k (a .1) (a .2) .0, rowOf f k (a .1) (a .2) .1, rowOf f k (a .1) (a .2) .2)
-  unfolding rowOf
+      → itemsOf f (suc k) (l ∷ ls) free ≡ (a .0 ∷ itemsOf f k (a .1) (a .2) .0, itemsOf f k (a .1) (a .2) .1, itemsOf f k (a .1) (a .2) .2)
+  unfolding itemsOf
   rowOf-more f k l ls free e = rw e
 
 -- leaves hung one by one while there is room
@@ -73,7 +73,7 @@ module _ (fan h : ℕ) where
   -- a row whose last tree is filled, and new trees beside it while there are places and lengths
   unfoldable pub row : ℕ → List (Tree h) → (Tree h × List ℕ × List ℕ) → Tree (suc h) × List ℕ × List ℕ
   row s xs a =
-      let r = rowOf (fresh fan h) (fan - suc (length xs)) (a .1) (a .2) in
+      let r = itemsOf (fresh fan h) (fan - suc (length xs)) (a .1) (a .2) in
       ((s, xs ++ a .0 ∷ r .0), r .1, r .2)
 
   -- what a chain grows to
@@ -113,7 +113,7 @@ module _ (fan h : ℕ) where
     -- no place left: no new tree
     row-full : (l : ℕ) (ls free : List ℕ) (s : ℕ) (xs : List (Tree h)) (x : Tree h) → ltb (suc (length xs)) fan ≡ false
         → ((s, xs ++ x ∷ []), l ∷ ls, free) ≡ row s xs (x, l ∷ ls, free)
-    unfolding row rowOf
+    unfolding row itemsOf
     row-full l ls free s xs x e = let z : fan - suc (length xs) ≡ 0 = omega (arith, ltb-false) in rw z
 
     -- a place left: a new chain is the next tree begun
@@ -156,7 +156,7 @@ module _ (fan h : ℕ) where
     row-is (l ∷ ls) free s xs x = row-next l ls (row-is ls) free s xs x (roomy fan h x) (ltb (suc (length xs)) fan) refl refl
 
 -- a row that begins with a new tree
-row-first : (fan h s : ℕ) (a : Tree h × List ℕ × List ℕ) {r : List (Tree h) × List ℕ × List ℕ} → rowOf (fresh (suc fan) h) fan (a .1) (a .2) ≡ r
+row-first : (fan h s : ℕ) (a : Tree h × List ℕ × List ℕ) {r : List (Tree h) × List ℕ × List ℕ} → itemsOf (fresh (suc fan) h) fan (a .1) (a .2) ≡ r
     → row (suc fan) h s [] a ≡ ((s, a .0 ∷ r .0), r .1, r .2)
 unfolding row
 row-first fan h s a e = let z : suc fan - 1 ≡ fan = omega arith in rw (z, e)

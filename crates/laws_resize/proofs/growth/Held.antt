@@ -9,7 +9,7 @@ use Rattle.laws_resize.specs.growth.Forms.{past}
 use Rattle.meaning.specs.Lists.{pick, joined}
 use Rattle.meaning.specs.Bytes.{Cell}
 use Rattle.meaning.specs.Tree.{Tree, cells, slotOf, atSlot, Held, nothing, just, held}
-use Rattle.laws_resize.specs.growth.Grow.{rowOf, fresh, overLast, fill, wider}
+use Rattle.laws_resize.specs.growth.Grow.{itemsOf, fresh, overLast, fill, wider}
 use Rattle.laws_resize.specs.growth.Made.{rowCells, upToLast, topOf, made, kept}
 use Rattle.laws_resize.proofs.growth.Grow.{Ends, none, last, ends, overLast-last}
 use Rattle.laws.proofs.Positions.{joined-append}
@@ -84,21 +84,21 @@ moved-cells (suc h) k t = refl
 module _ (fan : ℕ) where
   -- a filled row, and its cells
   pub fill-row : (h : ℕ) (lens free : List ℕ) (k : ℕ) (xs : List (Tree h)) (x : Tree h) (new : List (Tree h))
-      → rowOf (fresh fan h) (fan - length (xs ++ x ∷ [])) (fill fan h lens free x .1) (fill fan h lens free x .2) .0 ≡ new
+      → itemsOf (fresh fan h) (fan - length (xs ++ x ∷ [])) (fill fan h lens free x .1) (fill fan h lens free x .2) .0 ≡ new
       → fill fan (suc h) lens free (k, xs ++ x ∷ []) .0 ≡ (k, xs ++ fill fan h lens free x .0 ∷ new)
   unfolding fill
   fill-row h lens free k xs x new e = rw (overLast-last (fill fan h) lens free xs x, e, append-assoc)
 
   -- its new blocks
   pub made-row : (h : ℕ) (lens free : List ℕ) (k : ℕ) (xs : List (Tree h)) (x : Tree h) (new : List (Tree h))
-      → rowOf (fresh fan h) (fan - length (xs ++ x ∷ [])) (fill fan h lens free x .1) (fill fan h lens free x .2) .0 ≡ new
+      → itemsOf (fresh fan h) (fan - length (xs ++ x ∷ [])) (fill fan h lens free x .1) (fill fan h lens free x .2) .0 ≡ new
       → made fan (suc h) lens free (k, xs ++ x ∷ []) ≡ made fan h lens free x ++ rowCells h new
   unfolding made
   made-row h lens free k xs x new e = rw (overLast-last (fill fan h) lens free xs x, e, upToLast-last, joined-none)
 
   -- its old blocks
   pub kept-row : (h : ℕ) (lens free : List ℕ) (k : ℕ) (xs : List (Tree h)) (x : Tree h) (new : List (Tree h))
-      → rowOf (fresh fan h) (fan - length (xs ++ x ∷ [])) (fill fan h lens free x .1) (fill fan h lens free x .2) .0 ≡ new
+      → itemsOf (fresh fan h) (fan - length (xs ++ x ∷ [])) (fill fan h lens free x .1) (fill fan h lens free x .2) .0 ≡ new
       → kept fan (suc h) lens free (k, xs ++ x ∷ [])
       ≡ (k, topOf (suc h) (k, xs ++ fill fan h lens free x .0 ∷ new)) ∷ rowCells h xs ++ kept fan h lens free x
   unfolding kept
@@ -163,7 +163,7 @@ module _ (s : ℕ) where
         → held (cells (suc h) (fill fan (suc h) lens free (k, l) .0)) s ≡ held (made fan (suc h) lens free (k, l)) s
     new-row h ih lens free k l none e = none-new h lens free k e
     new-row h ih lens free k l (last xs x) e =
-        let new : List (Tree h) = rowOf (fresh fan h) (fan - length (xs ++ x ∷ [])) (fill fan h lens free x .1) (fill fan h lens free x .2) .0 in
+        let new : List (Tree h) = itemsOf (fresh fan h) (fan - length (xs ++ x ∷ [])) (fill fan h lens free x .1) (fill fan h lens free x .2) .0 in
         let e₀ = sym (cells-row h k xs x []) ∙ e in
         let e₁ = none-right _ _ e₀ in
         let e₂ = none-right _ _ e₁ in
@@ -195,7 +195,7 @@ module _ (s : ℕ) where
         → held (cells (suc h) (fill fan (suc h) lens free (k, l) .0)) s ≡ held (kept fan (suc h) lens free (k, l)) s
     old-row h ih lens free k l none e = none-old h lens free k e
     old-row h ih lens free k l (last xs x) e =
-        let new : List (Tree h) = rowOf (fresh fan h) (fan - length (xs ++ x ∷ [])) (fill fan h lens free x .1) (fill fan h lens free x .2) .0 in
+        let new : List (Tree h) = itemsOf (fresh fan h) (fan - length (xs ++ x ∷ [])) (fill fan h lens free x .1) (fill fan h lens free x .2) .0 in
         let e₀ = sym (ap (λ l. held l s) (made-row fan h lens free k xs x new refl) ∙ held-append (made fan h lens free x) (rowCells h new)) ∙ e in
         let b : held (rowCells h new) s ≡ nothing = none-right _ _ e₀ in
         rw (
@@ -217,7 +217,7 @@ module _ (s : ℕ) where
     pub wider-cells : (h : ℕ) (lens free : List ℕ) (t : Tree h) → held ((slotOf h t, topOf h t) ∷ []) s ≡ nothing
         → held (cells (suc h) (wider fan h lens free t .0)) s
         ≡ orElse (held ((getD free 0 past, topOf h t) ∷ []) s)
-        (orElse (held (cells h t) s) (held (rowCells h (rowOf (fresh fan h) (fan - 1) lens (drop 1 free) .0)) s))
+        (orElse (held (cells h t) s) (held (rowCells h (itemsOf (fresh fan h) (fan - 1) lens (drop 1 free) .0)) s))
     unfolding cells wider joined
     wider-cells h lens free t e =
         rw (moved-cells h (getD free 0 past) t, top-cells h t)

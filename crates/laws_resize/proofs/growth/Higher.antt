@@ -18,12 +18,12 @@ use Rattle.meaning.specs.Bytes.{Cell}
 use Rattle.meaning.specs.Shape.{up}
 use Rattle.meaning.specs.Tree.{Tree, slotOf, atSlot}
 use Rattle.laws.proofs.TreeSlots.{moved-slot}
-use Rattle.laws_resize.specs.growth.Grow.{rowOf, fresh, fill, wider}
+use Rattle.laws_resize.specs.growth.Grow.{itemsOf, fresh, fill, wider}
 use Rattle.laws_resize.specs.growth.Made.{topOf, made, higherMade, growMade}
-use Rattle.laws_resize.proofs.growth.Place.{row-lens, row-free, row-full, row-at, fresh-lens, fresh-free, fresh-full, fresh-at}
+use Rattle.laws_resize.proofs.growth.NewSubtreePlaces.{row-lens, row-free, row-full, row-at, fresh-lens, fresh-free, fresh-full, fresh-at}
 use Rattle.laws_resize.proofs.growth.Taller.{widerMore, higher-made}
-use Rattle.laws_resize.proofs.growth.Locate.{rowCellsAt, slots-row, row-most, fresh-most, none as noCell}
-use Rattle.laws_resize.proofs.growth.Spot.{row-spot, fill-lens, made-most, made-full, made-spot}
+use Rattle.laws_resize.proofs.growth.PthOfSubtree.{rowCellsAt, slots-row, row-most, fresh-most, none as noCell}
+use Rattle.laws_resize.proofs.growth.PthMade.{row-spot, fill-lens, made-most, made-full, made-spot}
 use Rattle.laws_resize.proofs.growth.Order.{made-follows}
 
 -- one more before n
@@ -39,7 +39,7 @@ higher-none fan (suc k) free h t = refl
 module _ (fan : ℕ) (one : 1 ≤ fan) (lens free : List ℕ) where
   -- new children of a root one higher, by place
   new-at : (h i b : ℕ)
-      → rowOf (fresh fan h) (fan - 1) (drop i lens) (drop 1 (drop b free)) .0
+      → itemsOf (fresh fan h) (fan - 1) (drop i lens) (drop 1 (drop b free)) .0
       ≡ rowAt (at fan lens free h) (fan ^ h) (bulk fan h) (places fan (length lens) (fan - 1) h i) i (suc b)
   unfolding places
   new-at h i b = rw (drop-drop, add-one) (row-at fan one lens free h (fresh-at fan one lens free h) (fan - 1) i (suc b))

@@ -22,12 +22,12 @@ use Rattle.laws_resize.specs.growth.Sites.{topRow, counting, sites, entr
 use Rattle.laws_resize.specs.growth.Forms.{places, newRow, newLeaves, grownRow, grown}
 use Rattle.laws_resize.specs.growth.Spot.{roomOf, spaceOf, spot, edgeCell}
 use Rattle.laws_resize.specs.growth.Made.{upToLast, kept}
-use Rattle.laws_resize.proofs.growth.Steps.{grown-full}
+use Rattle.laws_resize.proofs.growth.FormsByCases.{grown-full}
 use Rattle.laws_resize.proofs.growth.Sites.{ruled-append}
 use Rattle.laws_resize.proofs.growth.Grow.{Ends, none, last, ends}
 use Rattle.laws_resize.proofs.growth.Held.{upToLast-last}
-use Rattle.laws_resize.proofs.growth.Spot.{ofEnd-last}
-use Rattle.laws_resize.proofs.growth.Tops.{edge-is}
+use Rattle.laws_resize.proofs.growth.PthMade.{ofEnd-last}
+use Rattle.laws_resize.proofs.growth.RootAsItRises.{edge-is}
 use Rattle.laws_resize.proofs.growth.Cut.{rowCount, full-count, some-count}
 use Rattle.laws_resize.proofs.growth.Rooms.{count-last, front-count, numbered}
 

@@ -8,10 +8,10 @@ use Rattle.laws_resize.specs.growth.Forms.{past}
 use Rattle.meaning.specs.Lists.{joined}
 use Rattle.meaning.specs.Bytes.{Cell}
 use Rattle.meaning.specs.Tree.{Tree, cells}
-use Rattle.laws_resize.specs.growth.Grow.{rowOf, fresh, overLast, fill, wider}
+use Rattle.laws_resize.specs.growth.Grow.{itemsOf, fresh, overLast, fill, wider}
 use Rattle.laws_resize.specs.growth.Made.{rowCells, upToLast, made, higherMade, growMade}
 use Rattle.laws_resize.proofs.growth.Grow.{Ends, none, last, ends, overLast-last}
-use Rattle.laws_resize.proofs.growth.Place.{row-free, fresh-free}
+use Rattle.laws_resize.proofs.growth.NewSubtreePlaces.{row-free, fresh-free}
 use Rattle.laws_resize.proofs.growth.Held.{made-row}
 
 -- the k-th cell is in the k-th free slot
@@ -32,8 +32,8 @@ follows-append (c ∷ cs) b free rest q f g = (f .0, follows-append cs b (drop 1
 module _ (fan : ℕ) where
   -- the blocks of new subtrees
   row-follows : (h : ℕ) → ((lens free : List ℕ) → Follows (cells h (fresh fan h lens free .0)) free)
-      → (c : ℕ) (lens free : List ℕ) → Follows (rowCells h (rowOf (fresh fan h) c lens free .0)) free
-  unfolding rowOf joined
+      → (c : ℕ) (lens free : List ℕ) → Follows (rowCells h (itemsOf (fresh fan h) c lens free .0)) free
+  unfolding itemsOf joined
   row-follows h ih zero lens free = tt
   row-follows h ih (suc c) [] free = tt
   row-follows h ih (suc c) (l ∷ ls) free =
@@ -59,7 +59,7 @@ module _ (fan : ℕ) where
   made-next h ih lens free k l (last xs x) =
       let c : ℕ = fan - length (xs ++ x ∷ []) in
       let a : Tree h × List ℕ × List ℕ = fill fan h lens free x in
-      let new : List (Tree h) = rowOf (fresh fan h) c (a .1) (a .2) .0 in
+      let new : List (Tree h) = itemsOf (fresh fan h) c (a .1) (a .2) .0 in
       let i = ih lens free x in
       rw (made-row fan h lens free k xs x new refl, overLast-last (fill fan h) lens free xs x) (
         row-free fan h (fresh-free fan h) c (a .1) (a .2) ∙ ap (drop (length (rowCells h new))) (i .0)
@@ -79,7 +79,7 @@ module _ (fan : ℕ) where
   higher-follows zero lens free h t = tt
   higher-follows (suc k) [] free h t = tt
   higher-follows (suc k) (l ∷ ls) free h t =
-      let r : List (Tree h) × List ℕ × List ℕ = rowOf (fresh fan h) (fan - 1) (l ∷ ls) (drop 1 free) in (
+      let r : List (Tree h) × List ℕ × List ℕ = itemsOf (fresh fan h) (fan - 1) (l ∷ ls) (drop 1 free) in (
         refl,
         follows-append (rowCells h (r .0)) _ (drop 1 free) (r .2) (row-free fan h (fresh-free fan h) (fan - 1) (l ∷ ls) (drop 1 free))
             (row-follows h (fresh-follows h) (fan - 1) (l ∷ ls) (drop 1 free))

@@ -18,7 +18,7 @@ use Rattle.laws_resize.proofs.resizing.Ends.{length-snoc, joined-snoc, 
 use Rattle.laws.proofs.Every.{Every}
 use Rattle.laws_resize.specs.growth.Room.{count, RoomRow, Room}
 use Rattle.laws_resize.proofs.growth.Grow.{Ends, none, last, ends}
-use Rattle.laws_resize.proofs.growth.Spot.{ofEnd-last}
+use Rattle.laws_resize.proofs.growth.PthMade.{ofEnd-last}
 use Rattle.laws_resize.proofs.growth.Cut.{rowCount, count-cons, count-none, full-count, some-count}
 
 -- a row's leaves are those before its last tree, and that tree's

@@ -11,7 +11,7 @@ use Rattle.laws_resize.specs.growth.Forms.{past}
 use Rattle.meaning.specs.Lists.{pick}
 use Rattle.meaning.specs.Bytes.{Cell}
 use Rattle.meaning.specs.Tree.{Tree, Blob, cells, slotOf, Held, nothing, just, held}
-use Rattle.laws_resize.specs.growth.Grow.{rowOf, fresh, fill, wider, higher, grow}
+use Rattle.laws_resize.specs.growth.Grow.{itemsOf, fresh, fill, wider, higher, grow}
 use Rattle.laws_resize.specs.growth.Made.{rowCells, topOf, made, kept, higherMade, growMade}
 use Rattle.laws_resize.proofs.growth.Held.{orElse, orElse-nothing, nothing-or, none-left, none-right, held-cons, held-append, held-none}
 use Rattle.laws_resize.proofs.growth.Held.{held-new, held-old, below, top-cells, wider-cells}
@@ -43,7 +43,7 @@ distinct-apart s (c ∷ cs) b d n = go (eqb (c .0) s) refl (distinct-apart s cs 
 module _ (fan : ℕ) where
   -- the new children of a wider root, and the new blocks after them
   abbrev pub widerNew : (lens free : List ℕ) (h : ℕ) → List (ℕ × Cell)
-  widerNew lens free h = rowCells h (rowOf (fresh fan h) (fan - 1) lens (drop 1 free) .0)
+  widerNew lens free h = rowCells h (itemsOf (fresh fan h) (fan - 1) lens (drop 1 free) .0)
 
   abbrev pub widerMore : (k : ℕ) (lens free : List ℕ) (h : ℕ) → Tree h → List (ℕ × Cell)
   widerMore k lens free h t = higherMade fan k (wider fan h lens free t .1) (wider fan h lens free t .2) (suc h) (wider fan h lens free t .0)

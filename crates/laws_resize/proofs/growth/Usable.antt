@@ -14,7 +14,7 @@ use Rattle.laws.proofs.Inversions.{both-true}
 use Rattle.laws.proofs.Ranges.{filter-append, range-append}
 use Rattle.meaning.specs.Bytes.{state, recorded, lastVersion, usableSlot}
 use Rattle.meaning.specs.Lists.{pick, range, filter}
-use Rattle.laws_resize.proofs.growth.After.{Apart}
+use Rattle.laws_resize.proofs.growth.HeldInTheEnd.{Apart}
 
 -- a usable slot is free
 pub usable-free : (R : List ℕ) (s : ℕ) → usableSlot R s ≡ true → state R s ≡ 0

@@ -16,8 +16,8 @@ use Rattle.laws.proofs.Heights.{height-enough, height-least}
 use Rattle.laws.proofs.Shapes.{shaped-leaves, shaped-height}
 use Rattle.laws_resize.specs.growth.Forms.{bulk}
 use Rattle.laws_resize.specs.growth.Cuts.{heightOfLength}
-use Rattle.laws_resize.specs.growth.Slots.{taken}
-use Rattle.laws_resize.proofs.growth.Whole.{whole, total-by-height, blob-whole}
+use Rattle.laws_resize.specs.growth.HeldAfter.{taken}
+use Rattle.laws_resize.proofs.growth.RoomOfWholeTree.{whole, total-by-height, blob-whole}
 
 -- a height below the least is not enough
 pub height-short : (fan n d : ℕ) → 2 ≤ fan → d < heightFor fan n → fan ^ d < n

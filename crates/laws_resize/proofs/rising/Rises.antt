@@ -16,11 +16,11 @@ use Rattle.meaning.specs.Shape.{leavesFor, total, Shaped}
 use Rattle.laws_resize.specs.growth.Forms.{bulk, inRow, room, space, seat, freshCell, rootCell, tallCell}
 use Rattle.laws_resize.specs.growth.Forms.{newLeaves, newBytes, topCell, grownRoot, grownNew}
 use Rattle.laws_resize.specs.growth.Cuts.{heightOfLength}
-use Rattle.laws_resize.specs.growth.Slots.{rise}
-use Rattle.laws_resize.proofs.growth.Whole.{blob-room, blob-space, rise-room, rise-space}
-use Rattle.laws_resize.proofs.growth.Steps.{bulk-rises, root-rises, new-edge, new-tall, tall-moved, tall-beside, tall-further}
+use Rattle.laws_resize.specs.growth.HeldAfter.{rise}
+use Rattle.laws_resize.proofs.growth.RoomOfWholeTree.{blob-room, blob-space, rise-room, rise-space}
+use Rattle.laws_resize.proofs.growth.FormsByCases.{bulk-rises, root-rises, new-edge, new-tall, tall-moved, tall-beside, tall-further}
 use Rattle.laws_resize.specs.rising.{topAt}
-use Rattle.laws_resize.proofs.rising.Tops.{top-own, top-next}
+use Rattle.laws_resize.proofs.rising.RootByHeight.{top-own, top-next}
 use Rattle.laws_resize.proofs.rising.Bounds.{want-over, blob-leaves-fit, blob-blocks-fit, longer-height}
 
 -- a full tree that is higher has more blocks

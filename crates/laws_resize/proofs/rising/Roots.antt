@@ -17,13 +17,13 @@ use Rattle.laws.proofs.Inversions.{by-test}
 use Rattle.laws_resize.specs.growth.Sites.{rootRow}
 use Rattle.laws_resize.specs.growth.Cuts.{cutRow, heightOfLength, leftmost}
 use Rattle.laws_resize.specs.growth.Forms.{topCell}
-use Rattle.laws_resize.specs.growth.Slots.{shorterRoot}
-use Rattle.laws_resize.proofs.growth.Places.{left-row}
+use Rattle.laws_resize.specs.growth.HeldAfter.{shorterRoot}
+use Rattle.laws_resize.proofs.growth.WhereBlocksStand.{left-row}
 use Rattle.laws_resize.specs.rising.{topAt}
-use Rattle.laws_resize.proofs.rising.Tops.{top-own, top-height}
+use Rattle.laws_resize.proofs.rising.RootByHeight.{top-own, top-height}
 use Rattle.laws_resize.proofs.rising.Bounds.{longer-height}
 use Rattle.laws_resize.proofs.rising.SameByCount.{same-heights, same-grown, same-cut}
-use Rattle.laws_resize.proofs.rising.Leaves.{root-share}
+use Rattle.laws_resize.proofs.rising.HeldByPlace.{root-share}
 
 -- two blocks are the same by height and count, if those of the same height are by count
 by-count : (h : ℕ) (row : List ℕ) (c : Cell)

@@ -14,7 +14,7 @@ use Rattle.meaning.specs.Shape.{up, leavesFor}
 use Rattle.meaning.specs.Resize.{share}
 use Rattle.laws_resize.specs.growth.Forms.{grownRow}
 use Rattle.laws_resize.specs.growth.Cuts.{cutRow}
-use Rattle.laws_resize.proofs.growth.Steps.{grown-leaf}
+use Rattle.laws_resize.proofs.growth.FormsByCases.{grown-leaf}
 
 -- a list and one that begins with it
 pub same-front : (a b : List ℕ) → sameList a (a ++ b) ≡ eqb (length (a ++ b)) (length a)

@@ -7,19 +7,19 @@ use Rattle.laws_resize.specs.growth.Forms.{past}
 use Rattle.meaning.specs.Tree.{Tree, Blob, atSlot, slotOf}
 
 -- up to k new elements, while lengths are left
-unfoldable pub rowOf : {A : Type 0} → (List ℕ → List ℕ → A × List ℕ × List ℕ) → ℕ → List ℕ → List ℕ → List A × List ℕ × List ℕ
-rowOf f zero lens free = ([], lens, free)
-rowOf f (suc k) [] free = ([], [], free)
-rowOf f (suc k) (l ∷ ls) free =
+unfoldable pub itemsOf : {A : Type 0} → (List ℕ → List ℕ → A × List ℕ × List ℕ) → ℕ → List ℕ → List ℕ → List A × List ℕ × List ℕ
+itemsOf f zero lens free = ([], lens, free)
+itemsOf f (suc k) [] free = ([], [], free)
+itemsOf f (suc k) (l ∷ ls) free =
     let x = f (l ∷ ls) free in
-    let r = rowOf f k (x .1) (x .2) in
+    let r = itemsOf f k (x .1) (x .2) in
     (x .0 ∷ r .0, r .1, r .2)
 
 -- a new subtree of height h, with as many of the leaves as it can hold
 unfoldable pub fresh : ℕ → (h : ℕ) → List ℕ → List ℕ → Tree h × List ℕ × List ℕ
 fresh fan zero lens free = ((getD free 0 past, replicate (getD lens 0 0) 0), drop 1 lens, drop 1 free)
 fresh fan (suc h) lens free =
-    let r = rowOf (fresh fan h) fan lens (drop 1 free) in
+    let r = itemsOf (fresh fan h) fan lens (drop 1 free) in
     ((getD free 0 past, r .0), r .1, r .2)
 
 -- the last element, changed; of none, nothing
@@ -33,13 +33,13 @@ unfoldable pub fill : ℕ → (h : ℕ) → List ℕ → List ℕ → Tree h →
 fill fan zero lens free t = (t, lens, free)
 fill fan (suc h) lens free t =
     let a = overLast (fill fan h) lens free (t .1) in
-    let r = rowOf (fresh fan h) (fan - length (t .1)) (a .1) (a .2) in
+    let r = itemsOf (fresh fan h) (fan - length (t .1)) (a .1) (a .2) in
     ((t .0, a .0 ++ r .0), r .1, r .2)
 
 -- a full root: its content goes to the next free slot, and the root, one higher, has that child and new ones
 unfoldable pub wider : ℕ → (h : ℕ) → List ℕ → List ℕ → Tree h → Tree (suc h) × List ℕ × List ℕ
 wider fan h lens free t =
-    let r = rowOf (fresh fan h) (fan - 1) lens (drop 1 free) in
+    let r = itemsOf (fresh fan h) (fan - 1) lens (drop 1 free) in
     ((slotOf h t, atSlot h (getD free 0 past) t ∷ r .0), r .1, r .2)
 
 -- so while leaves are left, k times at most

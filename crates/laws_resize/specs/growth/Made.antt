@@ -6,7 +6,7 @@ use Rattle.meaning.specs.Lists.{joined}
 use Rattle.meaning.specs.Bytes.{Cell}
 use Rattle.meaning.specs.Tree.{Tree, cells, slotOf}
 use Rattle.laws_resize.specs.growth.Forms.{past}
-use Rattle.laws_resize.specs.growth.Grow.{rowOf, fresh, overLast, fill, wider}
+use Rattle.laws_resize.specs.growth.Grow.{itemsOf, fresh, overLast, fill, wider}
 
 -- a row's blocks
 abbrev pub rowCells : (h : ℕ) → List (Tree h) → List (ℕ × Cell)
@@ -29,7 +29,7 @@ module _ (fan : ℕ) where
   made zero lens free t = []
   made (suc h) lens free t =
       let a = overLast (fill fan h) lens free (t .1) in
-      upToLast (λ x. []) (made h lens free) (t .1) ++ rowCells h (rowOf (fresh fan h) (fan - length (t .1)) (a .1) (a .2) .0)
+      upToLast (λ x. []) (made h lens free) (t .1) ++ rowCells h (itemsOf (fresh fan h) (fan - length (t .1)) (a .1) (a .2) .0)
 
   -- the old blocks after fill
   unfoldable pub kept : (h : ℕ) → List ℕ → List ℕ → Tree h → List (ℕ × Cell)
@@ -42,7 +42,7 @@ module _ (fan : ℕ) where
   higherMade zero lens free h t = []
   higherMade (suc k) [] free h t = []
   higherMade (suc k) (l ∷ ls) free h t =
-      let r = rowOf (fresh fan h) (fan - 1) (l ∷ ls) (drop 1 free) in
+      let r = itemsOf (fresh fan h) (fan - 1) (l ∷ ls) (drop 1 free) in
       (getD free 0 past, topOf h t) ∷ rowCells h (r .0) ++ higherMade k (r .1) (r .2) (suc h) (wider fan h (l ∷ ls) free t .0)
 
   unfoldable pub growMade : ℕ → List ℕ → List ℕ → (h : ℕ) → Tree h → List (ℕ × Cell)

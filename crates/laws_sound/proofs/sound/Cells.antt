@@ -15,7 +15,7 @@ use Rattle.meaning.specs.Tree.{Tree, cells}
 use Rattle.meaning.specs.Walk.{used}
 use Rattle.laws.proofs.Inversions.{Sound, same-self}
 use Rattle.laws.proofs.Checks.{used-fits}
-use Rattle.laws.proofs.Codec.{cellOf, rowOf, row-length, mark-read, height-read, count-read, slot-read, version-read, rest-read, cell-read}
+use Rattle.laws.proofs.Codec.{cellOf, itemsOf, item-length, mark-read, height-read, count-read, slot-read, version-read, rest-read, cell-read}
 use Rattle.laws.proofs.TreeSlots.{slots, slots-inner, slots-cells}
 use Rattle.laws.proofs.Every.{Every}
 use Rattle.laws_resize.proofs.resizing.SlotCounts.{times, times-cons}
@@ -78,7 +78,7 @@ pub record Reads (e : Edition) (N : ℕ) (P R : List ℕ) (c : ℕ × Cell) : Ty
 
 -- the row that is read is the cell's
 pub reads-row : (e : Edition) (N : ℕ) (P R : List ℕ) (s h : ℕ) (r : List ℕ) → Reads e N P R (s, record { height = h; items = r })
-    → rowOf h (block e P s) ≡ r
+    → itemsOf h (block e P s) ≡ r
 unfolding cellOf
 reads-row e N P R s h r f = ap (λ (c : Cell). c .items) (f .cell)
 
@@ -108,7 +108,7 @@ pub record Fits (e : Edition) (c : Cell) : Type 0 where
 
 -- then its bytes fit the payload
 pub fits-payload : (e : Edition) → Proper e → (c : Cell) → Fits e c → length (itemBytes (c .height) (c .items)) ≤ e .leaf
-fits-payload e p c f = rw (row-length (c .height) (c .items)) (used-fits e p (c .height) (length (c .items)) (f .count))
+fits-payload e p c f = rw (item-length (c .height) (c .items)) (used-fits e p (c .height) (length (c .items)) (f .count))
 
 -- a written cell is read back
 pub written-reads : (e : Edition) → Proper e → (N : ℕ) (P R : List ℕ) → N ≤ 2 ^ 32 → (c : ℕ × Cell) → Fits e (c .1) → Written e N P R c

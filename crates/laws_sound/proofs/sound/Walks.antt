@@ -17,7 +17,7 @@ use Rattle.meaning.specs.Bytes.{Cell, block, childrenOf, state, recorded}
 use Rattle.meaning.specs.Tree.{Tree, slotOf, cells}
 use Rattle.meaning.specs.Shape.{InRow, ShapedTree}
 use Rattle.meaning.specs.Walk.{isRoot, linkCheck, Found, fine, isEmpty, visitRow, visit}
-use Rattle.laws.proofs.Codec.{rowOf, cellOf, row-count}
+use Rattle.laws.proofs.Codec.{itemsOf, cellOf, item-count}
 use Rattle.laws.proofs.Inversions.{sound-passed, passed-linked, linked-passed, visited-fine, fine-andThen}
 use Rattle.laws.proofs.Roots.{visit-slot}
 use Rattle.laws.proofs.Walked.{leaf-found, inner-found, none-found, row-found, block-room}
@@ -91,7 +91,7 @@ module _ (e : Edition) (N : ℕ) (P R : List ℕ) where
 
   -- a tree that lies in the pool is found as it is
   pub found-so : (h : ℕ) → Finds h
-  unfolding visit ShapedTree slotOf cells rowOf Finds
+  unfolding visit ShapedTree slotOf cells itemsOf Finds
   found-so zero role edge seen t link shape reads parts clear =
       let s : ℕ = t .0 in
       let check = sound-passed e zero (isRoot role) edge (recorded R s) s (block e P s)
@@ -193,11 +193,11 @@ module _ (e : Edition) (p : Proper e) (N : ℕ) (P R : List ℕ) (whole : length
 
   -- so does every visit
   pub tree-read : (h : ℕ) → Tells h
-  unfolding cells rowOf cellOf Tells marked
+  unfolding cells itemsOf cellOf Tells marked
   tree-read zero role edge seen s t seen′ low all flags new v =
       let f = leaf-found e N P R role edge seen s v in
       let b : List ℕ = block e P s in
-      let n = row-count b zero (block-room e p N P whole zero s low (f .sound .most)) in
+      let n = item-count b zero (block-room e p N P whole zero s low (f .sound .most)) in
       rw (← f .tree, ← f .flags) (record {
         reads = (
           record {
@@ -219,7 +219,7 @@ module _ (e : Edition) (p : Proper e) (N : ℕ) (P R : List ℕ) (whole : length
   tree-read (suc h) role edge seen s t seen′ low all flags new v =
       let f = inner-found e N P R h role edge seen s v in
       let b : List ℕ = block e P s in
-      let n = row-count b (suc h) (block-room e p N P whole (suc h) s low (f .sound .most)) in
+      let n = item-count b (suc h) (block-room e p N P whole (suc h) s low (f .sound .most)) in
       let one = clear-one seen s (omega arith) flags new in
       let low′ : Each (λ x. x < length seen) (s ∷ []) = each-more (λ x. x < length seen) s [] (omega arith) (each-none (λ x. x < length seen)) in
       let flags′ : Flags (set seen s 1) = λ x. omega (arith, flag-set seen s x (omega arith) new, one x) in

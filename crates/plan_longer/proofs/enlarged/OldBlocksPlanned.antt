@@ -12,7 +12,7 @@ use Rattle.meaning.specs.Lists.{pick, both}
 use Rattle.meaning.specs.Bytes.{Cell, block, heightOf, countOf}
 use Rattle.meaning.specs.Shape.{mostCount}
 use Rattle.meaning.specs.Resize.{share}
-use Rattle.laws.proofs.Codec.{rowOf, padded-length}
+use Rattle.laws.proofs.Codec.{itemsOf, padded-length}
 use Rattle.laws.proofs.Inversions.{both-true}
 use Rattle.laws_resize.specs.growth.Forms.{grownRow}
 use Rattle.laws_resize.specs.rising.{topAt}
@@ -37,14 +37,14 @@ redrawn e p c d x draws b t et = record {
 
 -- the root's, and another block's
 pub redrawn-root : (e : Edition) → Proper e → (g : Growth) (t : Tower) (free kept : List ℕ) (d : Drawn) (x : List ℕ)
-    → Draws e (topAt e (g .length) (g .leaves) (t .blocks) free (t .height) (rowOf (t .height) kept) (t .top)) d x → (u : Turn)
+    → Draws e (topAt e (g .length) (g .leaves) (t .blocks) free (t .height) (itemsOf (t .height) kept) (t .top)) d x → (u : Turn)
     → u ≡ pick (both (eqb (d .height) (heightOf kept)) (eqb (d .count) (countOf kept))) Stays (Renews (d .height) (d .count))
     → Redraws e kept (rootEnd e g t free kept) u x
 unfolding rootEnd
 redrawn-root e p g t free kept d x draws u eu = redrawn e p _ d x draws kept u eu
 
 pub redrawn-old : (e : Edition) → Proper e → (g : Growth) (P free hs fs : List ℕ) (i : ℕ) (b : List ℕ) → b ≡ block e P i → (d : Drawn) (x : List ℕ)
-    → Draws e (record { height = getD hs i 0 - 1; items = grownRow e (g .length) (g .leaves) free (getD hs i 0 - 1) (getD fs i 0) (rowOf (getD hs i 0 - 1) b) }) d x
+    → Draws e (record { height = getD hs i 0 - 1; items = grownRow e (g .length) (g .leaves) free (getD hs i 0 - 1) (getD fs i 0) (itemsOf (getD hs i 0 - 1) b) }) d x
     → (u : Turn) → u ≡ pick (both (eqb (d .height) (heightOf b)) (eqb (d .count) (countOf b))) Stays (Renews (d .height) (d .count))
     → Redraws e (block e P i) (oldEnd e g P free hs fs i) u x
 unfolding oldEnd
@@ -69,7 +69,7 @@ module _ (e : Edition) (long : ℕ) (b : List ℕ) (h first : ℕ) where
 
 -- a leaf with all its bytes stays: its height and count do
 settled-stays : (e : Edition) (g : Growth) (free b : List ℕ) (h first : ℕ) → both (eqb h 0) (both (eqb (heightOf b) 0) (eqb (countOf b) (share e (g .length) first))) ≡ true
-    → (R : List ℕ) (s : ℕ) → renewal e R s b (record { height = h; items = grownRow e (g .length) (g .leaves) free h first (rowOf h b) }) ≡ []
+    → (R : List ℕ) (s : ℕ) → renewal e R s b (record { height = h; items = grownRow e (g .length) (g .leaves) free h first (itemsOf h b) }) ≡ []
 unfolding renewal grownRow pick both
 settled-stays e g free b h first t R s =
     let u = both-true (eqb h 0) (both (eqb (heightOf b) 0) (eqb (countOf b) (share e (g .length) first))) t in
@@ -77,7 +77,7 @@ settled-stays e g free b h first t R s =
     let z : h ≡ 0 = eqb-true h 0 (u .0) in
     let y : heightOf b ≡ 0 = eqb-true (heightOf b) 0 (v .0) in
     let k : countOf b ≡ share e (g .length) first = eqb-true (countOf b) (share e (g .length) first) (v .1) in
-    rw (z, y, padded-length (share e (g .length) first) (rowOf 0 b), eq-eqb (share e (g .length) first) (countOf b) (sym k))
+    rw (z, y, padded-length (share e (g .length) first) (itemsOf 0 b), eq-eqb (share e (g .length) first) (countOf b) (sym k))
 
 pub redrawn-settled : (e : Edition) (g : Growth) (P free hs fs : List ℕ) (i : ℕ) (b : List ℕ) → b ≡ block e P i → (t : Bool)
     → t ≡ both (eqb (getD hs i 0 - 1) 0) (both (eqb (heightOf b) 0) (eqb (countOf b) (share e (g .length) (getD fs i 0)))) → t ≡ true → (x : List ℕ)

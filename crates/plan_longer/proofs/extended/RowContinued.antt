@@ -12,9 +12,9 @@ use Rattle.meaning.specs.Bytes.{countOf, dataOf, childrenOf}
 use Rattle.meaning.specs.Shape.{leavesFor}
 use Rattle.meaning.specs.Resize.{share}
 use Rattle.laws.proofs.Numbers.{part-length, OfBytes}
-use Rattle.laws.proofs.Codec.{padded-length, rowOf}
+use Rattle.laws.proofs.Codec.{padded-length, itemsOf}
 use Rattle.laws_resize.specs.growth.Forms.{every, bulk, places, room, space, newRow, newLeaves, grownRow}
-use Rattle.laws_resize.proofs.growth.Steps.{every-length}
+use Rattle.laws_resize.proofs.growth.FormsByCases.{every-length}
 use Rattle.plan_slot.specs.declared.payload.Drawn.{Drawn}
 use Rattle.plan_slot.specs.payload.{Draws}
 use Rattle.plan_slot.proofs.payload.Rows.{slots-more, padded-twice}
@@ -69,15 +69,15 @@ module _ (e : Edition) (p : Proper e) where
   -- the two, by height
   pub grown-lowest : (len n : ℕ) (free b x : List ℕ) (h first : ℕ) (d : Drawn) → h ≡ 0
       → Draws e (record { height = 0; items = padded (share e len first) (dataOf b) }) d x
-      → Draws e (record { height = h; items = grownRow e len n free h first (rowOf h b) }) d x
-  unfolding grownRow rowOf
+      → Draws e (record { height = h; items = grownRow e len n free h first (itemsOf h b) }) d x
+  unfolding grownRow itemsOf
   grown-lowest len n free b x zero first d low is = is
   grown-lowest len n free b x (suc h) first d low is = absurd (omega arith)
 
   pub grown-higher : (len n : ℕ) (free b x : List ℕ) (h first : ℕ) (d : Drawn) → (h ≡ 0 → ⊥)
       → Draws e (record { height = suc (h - 1); items = grownRow e len n free (suc (h - 1)) 0 (childrenOf b) }) d x
-      → Draws e (record { height = h; items = grownRow e len n free h first (rowOf h b) }) d x
-  unfolding grownRow rowOf
+      → Draws e (record { height = h; items = grownRow e len n free h first (itemsOf h b) }) d x
+  unfolding grownRow itemsOf
   grown-higher len n free b x zero first d tall is = absurd (tall refl)
   grown-higher len n free b x (suc h) first d tall is = let z : suc h - 1 ≡ h = omega arith in rw z at is
 

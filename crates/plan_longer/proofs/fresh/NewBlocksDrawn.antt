@@ -11,7 +11,7 @@ use Rattle.meaning.specs.Edition.{Proper}
 use Rattle.meaning.specs.Resize.{share}
 use Rattle.laws.proofs.Codec.{fours-length, padded-fits}
 use Rattle.laws_resize.specs.growth.Forms.{past, every, bulk, places, newRow, freshCell, above, newBytes}
-use Rattle.laws_resize.proofs.growth.Steps.{every-length}
+use Rattle.laws_resize.proofs.growth.FormsByCases.{every-length}
 use Rattle.plan_slot.specs.declared.payload.Drawn.{Drawn}
 use Rattle.plan_slot.specs.payload.{Draws}
 use Rattle.plan_slot.proofs.payload.Rows.{over-zeros, slots-more}

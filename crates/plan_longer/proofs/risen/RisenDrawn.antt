@@ -9,7 +9,7 @@ use Rattle.meaning.specs.declared.Edition.{Edition}
 use Rattle.meaning.specs.Edition.{Proper}
 use Rattle.meaning.specs.Bytes.{Cell}
 use Rattle.meaning.specs.Tree.{leavesOf}
-use Rattle.laws_resize.specs.growth.Slots.{rise}
+use Rattle.laws_resize.specs.growth.HeldAfter.{rise}
 use Rattle.laws_resize.specs.growth.Forms.{bulk, inRow, freshCell, newBytes, grownNew}
 use Rattle.plan_tree.specs.declared.seats.Seat.{Seat}
 use Rattle.plan_tree.specs.seats.{Sits}

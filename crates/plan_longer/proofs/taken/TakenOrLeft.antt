@@ -9,7 +9,7 @@ use Rattle.meaning.specs.declared.Edition.{Edition}
 use Rattle.meaning.specs.Edition.{Proper}
 use Rattle.meaning.specs.Lists.{pick, both}
 use Rattle.meaning.specs.Bytes.{state, recorded, lastVersion, usableSlot}
-use Rattle.laws.proofs.Codec.{rowOf}
+use Rattle.laws.proofs.Codec.{itemsOf}
 use Rattle.laws.proofs.Inversions.{both-true, both-false}
 use Rattle.laws_resize.specs.growth.Forms.{grownNew}
 use Rattle.plan_slot.specs.declared.payload.Drawn.{Drawn}
@@ -35,7 +35,7 @@ module _ (e : Edition) (g : Growth) (t : Tower) (R free kept : List ℕ) (below 
 
     -- taken
     pub new-planned : Proper e → below < t .taken → not a ≡ false → (d : Drawn) (x : List ℕ)
-        → Draws e (grownNew e (g .length) (g .leaves) free (t .top - t .height) (t .height) (rowOf (t .height) kept) below) d x
+        → Draws e (grownNew e (g .length) (g .leaves) free (t .top - t .height) (t .height) (itemsOf (t .height) kept) below) d x
         → turned e R i (Takes (d .height) (d .count)) x ≡ freePlan e g t R free kept below i
     unfolding freePlan newEnd pick both
     new-planned p l q d x draws = taken-turned e p _ d x draws R i ∙ rw (← ea, not-false a q, lt-ltb below (t .taken) l)

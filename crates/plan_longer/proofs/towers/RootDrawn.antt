@@ -8,10 +8,10 @@ use Rattle.meaning.specs.declared.Edition.{Edition}
 use Rattle.meaning.specs.Bytes.{Cell}
 use Rattle.meaning.specs.Tree.{leavesOf}
 use Rattle.meaning.specs.Shape.{total}
-use Rattle.laws.proofs.Codec.{rowOf}
+use Rattle.laws.proofs.Codec.{itemsOf}
 use Rattle.laws_resize.specs.growth.Forms.{bulk, above, newLeaves, newBytes, grownRow, topCell}
 use Rattle.laws_resize.specs.rising.{topAt}
-use Rattle.laws_resize.proofs.rising.Tops.{top-own, top-next}
+use Rattle.laws_resize.proofs.rising.RootByHeight.{top-own, top-next}
 use Rattle.plan_slot.specs.declared.payload.Drawn.{Drawn}
 use Rattle.plan_slot.specs.payload.{Draws}
 use Rattle.plan_longer.specs.declared.fresh.Growth.{Growth}
@@ -34,12 +34,12 @@ rootAt e g t free row = topAt e (g .length) (g .leaves) (t .blocks) free (t .hei
 
 -- at its old height the root has its own row, filled
 pub root-own : (e : Edition) (g : Growth) (t : Tower) (free kept : List ℕ) (level : ℕ) (d : Drawn) (x : List ℕ) → level ≡ t .height
-    → Draws e (record { height = level; items = grownRow e (g .length) (g .leaves) free level 0 (rowOf level kept) }) d x
-    → Draws e (topAt e (g .length) (g .leaves) (t .blocks) free (t .height) (rowOf (t .height) kept) level) d x
+    → Draws e (record { height = level; items = grownRow e (g .length) (g .leaves) free level 0 (itemsOf level kept) }) d x
+    → Draws e (topAt e (g .length) (g .leaves) (t .blocks) free (t .height) (itemsOf (t .height) kept) level) d x
 unfolding topCell
 root-own e g t free kept level d x is draws =
     let at = rw is at draws in
-    rw is (draws-as (top-own e (g .length) (g .leaves) (t .blocks) free (t .height) (rowOf (t .height) kept)) at)
+    rw is (draws-as (top-own e (g .length) (g .leaves) (t .blocks) free (t .height) (itemsOf (t .height) kept)) at)
 
 -- above it the child that took its row, and new ones
 root-next : (e : Edition) (g : Growth) (t : Tower) (free row : List ℕ) (level w b : ℕ) → Grows e g → (level ≡ t .height → ⊥) → t .height ≤ level

@@ -12,7 +12,7 @@ use Rattle.meaning.specs.Bytes.{countOf}
 use Rattle.meaning.specs.Shape.{leavesFor, mostCount}
 use Rattle.meaning.specs.Resize.{share}
 use Rattle.laws_resize.specs.growth.Forms.{bulk}
-use Rattle.laws_resize.proofs.growth.Steps.{bulk-rises}
+use Rattle.laws_resize.proofs.growth.FormsByCases.{bulk-rises}
 use Rattle.plan_tree.proofs.subtrees.SubtreesFromBelow.{pow-rises, bulk-twice}
 use Rattle.laws_resize.proofs.rising.Bounds.{want-power, blob-leaves-fit, blob-blocks-fit, longer-leaves, longer-height}
 use Rattle.plan_longer.specs.declared.fresh.Growth.{Growth}

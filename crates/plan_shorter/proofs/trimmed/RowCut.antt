@@ -11,7 +11,7 @@ use Rattle.meaning.specs.Bytes.{countOf, dataOf, childrenOf}
 use Rattle.meaning.specs.Shape.{up, leavesFor}
 use Rattle.meaning.specs.Resize.{share}
 use Rattle.laws.proofs.Numbers.{part-length, OfBytes}
-use Rattle.laws.proofs.Codec.{rowOf}
+use Rattle.laws.proofs.Codec.{itemsOf}
 use Rattle.laws_resize.specs.growth.Cuts.{cutRow}
 use Rattle.laws_resize.specs.growth.Forms.{places}
 use Rattle.plan_slot.specs.declared.payload.Drawn.{Drawn}
@@ -50,14 +50,14 @@ module _ (e : Edition) (p : Proper e) where
   -- the two, by height
   pub cut-lowest : (short : ℕ) (b x : List ℕ) (h first : ℕ) (d : Drawn) → h ≡ 0
       → Draws e (record { height = 0; items = cutRow e short 0 first (dataOf b) }) d x
-      → Draws e (record { height = h; items = cutRow e short h first (rowOf h b) }) d x
-  unfolding cutRow rowOf
+      → Draws e (record { height = h; items = cutRow e short h first (itemsOf h b) }) d x
+  unfolding cutRow itemsOf
   cut-lowest short b x zero first d low is = is
   cut-lowest short b x (suc h) first d low is = absurd (omega arith)
 
   pub cut-higher : (short leaves : ℕ) (b x : List ℕ) (h first : ℕ) (d : Drawn) → (h ≡ 0 → ⊥) → leaves ≡ leavesFor (e .leaf) short
       → Draws e (record { height = suc (h - 1); items = take (up (leaves - first) (e .fan ^ (h - 1))) (childrenOf b) }) d x
-      → Draws e (record { height = h; items = cutRow e short h first (rowOf h b) }) d x
-  unfolding cutRow rowOf
+      → Draws e (record { height = h; items = cutRow e short h first (itemsOf h b) }) d x
+  unfolding cutRow itemsOf
   cut-higher short leaves b x zero first d tall some is = absurd (tall refl)
   cut-higher short leaves b x (suc h) first d tall some is = let z : suc h - 1 ≡ h = omega arith in rw (z, some) at is

@@ -12,7 +12,7 @@ use Rattle.meaning.specs.Edition.{Proper}
 use Rattle.meaning.specs.Bytes.{Cell, itemBytes, header, blockBytes, encoded, countOf, dataOf, childrenOf}
 use Rattle.meaning.specs.Walk.{used}
 use Rattle.laws.proofs.Numbers.{OfBytes}
-use Rattle.laws.proofs.Codec.{fours-length, header-length, drop-small, fours-written, rowOf, row-count}
+use Rattle.laws.proofs.Codec.{fours-length, header-length, drop-small, fours-written, itemsOf, item-count}
 use Rattle.plan_slot.specs.declared.payload.Drawn.{Drawn}
 use Rattle.plan_slot.specs.payload.{Draws}
 use Rattle.plan_slot.proofs.payload.Rows.{padded-twice}
@@ -63,8 +63,8 @@ take-front (suc n) (suc k) (x ∷ l) =
 module _ (b : List ℕ) where
   -- an inner block has as many children as its count says
   pub children-count : 16 + 4 * countOf b ≤ length b → length (childrenOf b) ≡ countOf b
-  unfolding rowOf used
-  children-count k = row-count b 1 k
+  unfolding itemsOf used
+  children-count k = item-count b 1 k
 
   -- of an inner block
   pub payload-inner : OfBytes b → 16 + 4 * countOf b ≤ length b → joined (map (bytes 4) (childrenOf b)) ≡ part 16 (4 * countOf b) b

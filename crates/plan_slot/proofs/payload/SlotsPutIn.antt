@@ -10,7 +10,7 @@ use Rattle.laws.proofs.Numbers.{bytes-length}
 use Rattle.laws.proofs.Parts.{pasted-none}
 use Rattle.laws.proofs.Codec.{fours-length}
 use Rattle.laws_resize.specs.growth.Forms.{past, every}
-use Rattle.laws_resize.proofs.growth.Steps.{every-length}
+use Rattle.laws_resize.proofs.growth.FormsByCases.{every-length}
 use Rattle.plan_slot.proofs.payload.Rows.{spelled-append, pasted-more}
 
 -- slots taken at equal steps: one more, at the end

@@ -5,7 +5,7 @@ use Prim.Native.Nat.{ℕ, zero, suc, _+_, _-_, _*_, _/_, _%_, _^_, _≤_, _<_}
 use native.Mathlib.Nat.{mul-le-mul-left, div-add-mod'}
 use native.Mathlib.Omega.{arith}
 use Rattle.laws_resize.specs.growth.Forms.{bulk, locate, inRow, room, space, seat}
-use Rattle.laws_resize.proofs.growth.Steps.{locate-top, locate-leaf, locate-down, seat-below, seat-beside}
+use Rattle.laws_resize.proofs.growth.FormsByCases.{locate-top, locate-leaf, locate-down, seat-below, seat-beside}
 use Rattle.plan_tree.proofs.subtrees.SubtreesFromBelow.{bulk-leaves}
 use Rattle.plan_tree.specs.declared.seats.Seat.{Seat}
 use Rattle.plan_tree.specs.seats.{Sits}

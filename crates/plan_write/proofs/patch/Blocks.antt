@@ -12,7 +12,7 @@ use Rattle.meaning.specs.Edition.{Proper}
 use Rattle.meaning.specs.Bytes.{itemBytes, header, encoded, dataOf}
 use Rattle.laws.proofs.Numbers.{OfBytes}
 use Rattle.laws.proofs.Parts.{pasted-length}
-use Rattle.laws.proofs.Codec.{encoded-bytes, header-length, passed-encoded, cellOf, rowOf}
+use Rattle.laws.proofs.Codec.{encoded-bytes, header-length, passed-encoded, cellOf, itemsOf}
 use Rattle.laws.proofs.Inversions.{Sound, sound-passed}
 use Rattle.plan_write.specs.stretch.{leafCell}
 
@@ -66,5 +66,5 @@ module _ (e : Edition) (p : Proper e) where
   -- where header and payload fill a block, a leaf's block of bytes that passes checks 2 and 3 is the written block of its bytes
   pub leaf-encoded : e .size ≡ 16 + e .leaf → (v s : ℕ) (b : List ℕ) → length b ≡ e .size → OfBytes b → Sound e 0 true true v s b
       → b ≡ encoded e (leafCell (dataOf b)) s v
-  unfolding cellOf rowOf
+  unfolding cellOf itemsOf
   leaf-encoded fills v s b long small sound = passed-encoded e p fills 0 true true v s b long (small .small) (sound-passed e 0 true true v s b sound)

@@ -17,12 +17,12 @@ use Rattle.meaning.specs.Resize.{refilled}
 use Rattle.meaning.specs.Change.{changed}
 use Rattle.meaning.specs.Calls.{become}
 use Rattle.laws.proofs.Numbers.{part-length}
-use Rattle.laws.proofs.Codec.{rowOf}
+use Rattle.laws.proofs.Codec.{itemsOf}
 use Rattle.laws.proofs.Inversions.{by-test, Sound}
 use Rattle.laws_resize.specs.growth.Sites.{Site, sitesOf, at, sited}
 use Rattle.laws_resize.specs.growth.Cuts.{rewritten}
-use Rattle.laws_resize.specs.growth.Slots.{writtenHeld}
-use Rattle.laws_resize.proofs.growth.Resized.{write-changes}
+use Rattle.laws_resize.specs.growth.HeldAfter.{writtenHeld}
+use Rattle.laws_resize.proofs.growth.ResizedBySlot.{write-changes}
 use Rattle.laws_resize.proofs.growth.Changes.{held-at, rewrite-old, rewrite-inner, rewrite-other}
 use Rattle.laws.proofs.Every.{Every, every-mem}
 use Rattle.laws_sound.proofs.sound.Cells.{Reads, reads-sound}
@@ -67,7 +67,7 @@ module _ (e : Edition) (p : Proper e) (n : ℕ) (P R : List ℕ) (r len k : ℕ)
     site = record { height = 0; first = getD fs s 0; items = dataOf (block e P s) }
 
     here : sited (sitesOf b) s ≡ at site
-    unfolding siteAt rowOf
+    unfolding siteAt itemsOf
     here = g .sites .some s (omega arith) ∙ rw leaf
 
     within : s < n

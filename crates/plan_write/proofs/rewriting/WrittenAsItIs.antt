@@ -13,8 +13,8 @@ use Rattle.meaning.specs.Tree.{Tree, Blob, content, contentOf, cellsOf, just, h
 use Rattle.meaning.specs.Resize.{Spread, along, refill, refilled}
 use Rattle.laws_resize.specs.growth.Sites.{Site, sitesOf, at, sited, heldBy}
 use Rattle.laws_resize.specs.growth.Cuts.{written, rewritten}
-use Rattle.laws_resize.specs.growth.Slots.{writtenHeld}
-use Rattle.laws_resize.proofs.growth.Resized.{Standing, write-slot}
+use Rattle.laws_resize.specs.growth.HeldAfter.{writtenHeld}
+use Rattle.laws_resize.proofs.growth.ResizedBySlot.{Standing, write-slot}
 use Rattle.laws_resize.proofs.growth.Changes.{held-at}
 
 -- a row of trees that each take their own bytes and leave the rest

@@ -3,7 +3,7 @@ use mathlib.Core.Path.{_≡_}
 use native.Mathlib.Omega.{arith}
 use Prim.Native.Nat.{_-_, _≤_}
 use lib.ListN.{length}
-use Rattle.laws_resize.specs.growth.Slots.{usableBelow}
+use Rattle.laws_resize.specs.growth.HeldAfter.{usableBelow}
 use Rattle.plan_slot.specs.change.Turns.{Turning}
 use Rattle.plan_slot.proofs.change.SlotLoop.{turning-start, pool-turned, records-turned}
 use Rattle.plan_longer.specs.Plans.{growPlans}

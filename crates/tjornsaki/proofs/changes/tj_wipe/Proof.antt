@@ -1,5 +1,5 @@
 -- The store's answer as numbers; pool and records as the store left them.
-use Rattle.answers.proofs.Calls.{wipe-numbers}
+use Rattle.answers.proofs.NumbersOfCalls.{wipe-numbers}
 use borrow.Author.Needs.{needs}
 use Rattle.tjornsaki.proofs.changes.tj_wipe.Statement.{statement}
 use Rattle.tjornsaki.proofs.changes.tj_wipe.Tie as tie

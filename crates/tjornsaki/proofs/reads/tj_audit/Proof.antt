@@ -1,5 +1,5 @@
 -- The store's answer as numbers.
-use Rattle.answers.proofs.Calls.{audit-numbers}
+use Rattle.answers.proofs.NumbersOfCalls.{audit-numbers}
 use borrow.Author.Needs.{needs}
 use Rattle.tjornsaki.proofs.reads.tj_audit.Statement.{statement}
 use Rattle.tjornsaki.proofs.reads.tj_audit.Tie as tie

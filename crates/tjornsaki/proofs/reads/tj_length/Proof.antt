@@ -1,5 +1,5 @@
 -- The store's answer as numbers.
-use Rattle.answers.proofs.Calls.{length-numbers}
+use Rattle.answers.proofs.NumbersOfCalls.{length-numbers}
 use borrow.Author.Needs.{needs}
 use Rattle.tjornsaki.proofs.reads.tj_length.Statement.{statement}
 use Rattle.tjornsaki.proofs.reads.tj_length.Tie as tie

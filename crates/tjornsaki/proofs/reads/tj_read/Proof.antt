@@ -1,5 +1,5 @@
 -- The store's answer as numbers; the output as the store left it.
-use Rattle.answers.proofs.Calls.{read-numbers}
+use Rattle.answers.proofs.NumbersOfCalls.{read-numbers}
 use borrow.Author.Needs.{needs}
 use Rattle.tjornsaki.proofs.reads.tj_read.Statement.{statement}
 use Rattle.tjornsaki.proofs.reads.tj_read.Tie as tie

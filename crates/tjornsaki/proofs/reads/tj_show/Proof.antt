@@ -1,5 +1,5 @@
 -- The store's answer as numbers.
-use Rattle.answers.proofs.Calls.{leaf-numbers}
+use Rattle.answers.proofs.NumbersOfCalls.{leaf-numbers}
 use borrow.Author.Needs.{needs}
 use Rattle.tjornsaki.proofs.reads.tj_show.Statement.{statement}
 use Rattle.tjornsaki.proofs.reads.tj_show.Tie as tie

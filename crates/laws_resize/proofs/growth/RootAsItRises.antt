@@ -17,10 +17,10 @@ use Rattle.meaning.specs.Tree.{Tree, Blob, slotOf}
 use Rattle.laws_resize.specs.growth.Grow.{overLast, fill, wider, higher, grow}
 use Rattle.laws_resize.specs.growth.Made.{topOf}
 use Rattle.laws_resize.proofs.growth.Grow.{Ends, none, last, ends, overLast-last}
-use Rattle.laws_resize.proofs.growth.Place.{row-at, fresh-at}
+use Rattle.laws_resize.proofs.growth.NewSubtreePlaces.{row-at, fresh-at}
 use Rattle.laws_resize.proofs.growth.Taller.{fill-slot}
-use Rattle.laws_resize.proofs.growth.Locate.{slots-row}
-use Rattle.laws_resize.proofs.growth.Spot.{fill-lens, made-full, place-row, ofEnd-last}
+use Rattle.laws_resize.proofs.growth.PthOfSubtree.{slots-row}
+use Rattle.laws_resize.proofs.growth.PthMade.{fill-lens, made-full, place-row, ofEnd-last}
 use Rattle.laws_resize.proofs.growth.Order.{made-follows}
 use Rattle.laws_resize.proofs.growth.Higher.{above-is, wider-lens, wider-free}
 

@@ -16,7 +16,7 @@ use Rattle.meaning.specs.Lists.{joined}
 use Rattle.laws.proofs.Totals.{up-zero}
 use Rattle.meaning.specs.Shape.{up}
 use Rattle.meaning.specs.Tree.{cells}
-use Rattle.laws_resize.specs.growth.Grow.{rowOf, fresh}
+use Rattle.laws_resize.specs.growth.Grow.{itemsOf, fresh}
 use Rattle.laws_resize.specs.growth.Made.{rowCells}
 use Rattle.laws_resize.proofs.growth.Grow.{rowOf-none}
 
@@ -27,8 +27,8 @@ one-more n = omega arith
 module _ (fan : ℕ) where
   -- leaves used
   pub row-lens : (h : ℕ) → ((lens free : List ℕ) → fresh fan h lens free .1 ≡ drop (fan ^ h) lens)
-      → (c : ℕ) (lens free : List ℕ) → rowOf (fresh fan h) c lens free .1 ≡ drop (c * fan ^ h) lens
-  unfolding rowOf
+      → (c : ℕ) (lens free : List ℕ) → itemsOf (fresh fan h) c lens free .1 ≡ drop (c * fan ^ h) lens
+  unfolding itemsOf
   row-lens h ih zero lens free = let z : 0 * fan ^ h ≡ 0 = omega arith in rw z
   row-lens h ih (suc c) [] free = sym (drop-nil (suc c * fan ^ h))
   row-lens h ih (suc c) (l ∷ ls) free =
@@ -42,8 +42,8 @@ module _ (fan : ℕ) where
 
   -- slots used: one for each block
   pub row-free : (h : ℕ) → ((lens free : List ℕ) → fresh fan h lens free .2 ≡ drop (length (cells h (fresh fan h lens free .0))) free)
-      → (c : ℕ) (lens free : List ℕ) → rowOf (fresh fan h) c lens free .2 ≡ drop (length (rowCells h (rowOf (fresh fan h) c lens free .0))) free
-  unfolding rowOf joined
+      → (c : ℕ) (lens free : List ℕ) → itemsOf (fresh fan h) c lens free .2 ≡ drop (length (rowCells h (itemsOf (fresh fan h) c lens free .0))) free
+  unfolding itemsOf joined
   row-free h ih zero lens free = refl
   row-free h ih (suc c) [] free = refl
   row-free h ih (suc c) (l ∷ ls) free = row-free h ih c _ _ ∙ rw (ih (l ∷ ls) free, drop-drop, length-append)
@@ -70,8 +70,8 @@ up-more f n one some =
 module _ (fan : ℕ) (one : 1 ≤ fan) where
   -- a subtree with leaves enough is full
   pub row-full : (h : ℕ) → ((lens free : List ℕ) → fan ^ h ≤ length lens → length (cells h (fresh fan h lens free .0)) ≡ bulk fan h)
-      → (c : ℕ) (lens free : List ℕ) → c * fan ^ h ≤ length lens → length (rowCells h (rowOf (fresh fan h) c lens free .0)) ≡ c * bulk fan h
-  unfolding rowOf joined
+      → (c : ℕ) (lens free : List ℕ) → c * fan ^ h ≤ length lens → length (rowCells h (itemsOf (fresh fan h) c lens free .0)) ≡ c * bulk fan h
+  unfolding itemsOf joined
   row-full h ih zero lens free fits = omega arith
   row-full h ih (suc c) [] free fits = absurd (omega (arith, one-le-pow h fan one))
   row-full h ih (suc c) (l ∷ ls) free fits =
@@ -94,19 +94,19 @@ module _ (fan : ℕ) (one : 1 ≤ fan) where
 
     abbrev RowAt : ℕ → ℕ → Type 0
     RowAt h c = (i k : ℕ)
-        → rowOf (fresh fan h) c (drop i lens) (drop k free) .0
+        → itemsOf (fresh fan h) c (drop i lens) (drop k free) .0
         ≡ rowAt (at fan lens free h) (fan ^ h) (bulk fan h) (min c (up (length lens - i) (fan ^ h))) i k
 
     -- the first of a row
     row-head : (h c i : ℕ) (f : List ℕ) → i < length lens
-        → rowOf (fresh fan h) (suc c) (drop i lens) f .0
-        ≡ fresh fan h (drop i lens) f .0 ∷ rowOf (fresh fan h) c (fresh fan h (drop i lens) f .1) (fresh fan h (drop i lens) f .2) .0
-    unfolding rowOf
+        → itemsOf (fresh fan h) (suc c) (drop i lens) f .0
+        ≡ fresh fan h (drop i lens) f .0 ∷ itemsOf (fresh fan h) c (fresh fan h (drop i lens) f .1) (fresh fan h (drop i lens) f .2) .0
+    unfolding itemsOf
     row-head h c i f less = rw (drop-cons lens i 0 less)
 
     -- after a full child the next begins a bulk further; after another there is none
     row-tail : (h c : ℕ) → RowAt h c → (i k : ℕ) (b : Bool) → leb (i + fan ^ h) (length lens) ≡ b
-        → rowOf (fresh fan h) c (drop (i + fan ^ h) lens) (fresh fan h (drop i lens) (drop k free) .2) .0
+        → itemsOf (fresh fan h) c (drop (i + fan ^ h) lens) (fresh fan h (drop i lens) (drop k free) .2) .0
         ≡ rowAt (at fan lens free h) (fan ^ h) (bulk fan h) (min c (up (length lens - (i + fan ^ h)) (fan ^ h))) (i + fan ^ h) (k + bulk fan h)
     unfolding rowAt
     row-tail h c next i k true e =
@@ -125,12 +125,12 @@ module _ (fan : ℕ) (one : 1 ≤ fan) where
 
     -- a row of new subtrees
     pub row-at : (h : ℕ) → At h → (c : ℕ) → RowAt h c
-    unfolding rowOf rowAt
+    unfolding itemsOf rowAt
     row-at h ih zero i k = rw zero-min
     row-at h ih (suc c) i k = go (row-at h ih c) (ltb i (length lens)) refl
       where
         go : RowAt h c → (b : Bool) → ltb i (length lens) ≡ b
-            → rowOf (fresh fan h) (suc c) (drop i lens) (drop k free) .0
+            → itemsOf (fresh fan h) (suc c) (drop i lens) (drop k free) .0
             ≡ rowAt (at fan lens free h) (fan ^ h) (bulk fan h) (min (suc c) (up (length lens - i) (fan ^ h))) i k
         go next true e =
             let less : i < length lens = ltb-true i (length lens) e in

@@ -23,7 +23,7 @@ use Rattle.laws_resize.proofs.resizing.Ends.{some-child}
 use Rattle.laws_resize.specs.growth.Room.{count}
 use Rattle.laws_resize.specs.growth.Sites.{Site, counting, sites, sitesOf, rootRow, at, sited}
 use Rattle.laws_resize.proofs.growth.Cut.{count-cons, some-count}
-use Rattle.laws_resize.proofs.growth.Places.{sited-listed, own-site}
+use Rattle.laws_resize.proofs.growth.WhereBlocksStand.{sited-listed, own-site}
 
 -- a block among trees whose leaves are ls, the first of them with number i
 record Within (e : Edition) (i : ℕ) (ls : List (ℕ × List ℕ)) (x : Site) : Type 0 where

@@ -16,13 +16,13 @@ use Rattle.meaning.specs.Lists.{pick}
 use Rattle.meaning.specs.Bytes.{Cell}
 use Rattle.meaning.specs.Shape.{up}
 use Rattle.meaning.specs.Tree.{Tree}
-use Rattle.laws_resize.specs.growth.Grow.{rowOf, fresh, overLast, fill}
+use Rattle.laws_resize.specs.growth.Grow.{itemsOf, fresh, overLast, fill}
 use Rattle.laws_resize.specs.growth.Made.{rowCells, upToLast, made}
 use Rattle.laws_resize.proofs.growth.Grow.{Ends, none, last, ends, overLast-last, rowOf-none}
 use Rattle.laws.proofs.Totals.{up-zero}
-use Rattle.laws_resize.proofs.growth.Place.{row-lens, row-full, row-at, fresh-lens, fresh-full, fresh-at}
+use Rattle.laws_resize.proofs.growth.NewSubtreePlaces.{row-lens, row-full, row-at, fresh-lens, fresh-full, fresh-at}
 use Rattle.laws_resize.proofs.growth.Held.{made-row}
-use Rattle.laws_resize.proofs.growth.Locate.{rowCellsAt, row-found, at-found, row-most, fresh-most, none as noCell, some-row, up-pos}
+use Rattle.laws_resize.proofs.growth.PthOfSubtree.{rowCellsAt, row-found, at-found, row-most, fresh-most, none as noCell, some-row, up-pos}
 use Rattle.laws_resize.proofs.growth.Order.{made-follows}
 
 -- f of a last element
@@ -94,7 +94,7 @@ module _ (fan : ℕ) (one : 1 ≤ fan) where
   module _ (lens free : List ℕ) where
     -- new children, after a subtree is filled, by place
     pub place-row : (h c : ℕ) (x : Tree h) (b : Bool) → ltb (roomOf fan h x) (length lens) ≡ b
-        → rowOf (fresh fan h) c (fill fan h lens free x .1) (fill fan h lens free x .2) .0
+        → itemsOf (fresh fan h) c (fill fan h lens free x .1) (fill fan h lens free x .2) .0
         ≡ rowAt (at fan lens free h) (fan ^ h) (bulk fan h) (places fan (length lens) c h (roomOf fan h x)) (roomOf fan h x) (spaceOf fan h x)
     unfolding rowAt places
     place-row h c x true e =
@@ -165,7 +165,7 @@ module _ (fan : ℕ) (one : 1 ≤ fan) where
     unfolding spot made ofEnd overLast upToLast pick places
     spot-none h k p less =
         let m : ℕ = places fan (length lens) (fan - 0) h 0 in
-        let q : rowCells h (rowOf (fresh fan h) (fan - 0) lens free .0) ≡ rowCellsAt fan one lens free h m 0 0
+        let q : rowCells h (itemsOf (fresh fan h) (fan - 0) lens free .0) ≡ rowCellsAt fan one lens free h m 0 0
         = ap (rowCells h) (row-at fan one lens free h (fresh-at fan one lens free h) (fan - 0) 0 0) in
         let n : p < length (rowCellsAt fan one lens free h m 0 0) = rw q at less in
         rw (q, le-ltb p 0 (omega arith), row-spot h m 0 0 p (omega arith) n, zero-add p, sub-zero p)
@@ -177,7 +177,7 @@ module _ (fan : ℕ) (one : 1 ≤ fan) where
     spot-next h ih k l none p less = spot-none h k p less
     spot-next h ih k l (last xs x) p less =
         let c : ℕ = fan - length (xs ++ x ∷ []) in
-        let new : List (Tree h) = rowOf (fresh fan h) c (fill fan h lens free x .1) (fill fan h lens free x .2) .0 in
+        let new : List (Tree h) = itemsOf (fresh fan h) c (fill fan h lens free x .1) (fill fan h lens free x .2) .0 in
         let m = made-row fan h lens free k xs x new refl in
         rw (m, ofEnd-last 0 (spaceOf fan h) xs x, ofEnd-last 0 (roomOf fan h) xs x, ofEnd-last (0, 0) (λ x. spot fan h x p) xs x)
         (spot-row h ih c x p (rowCells h new) (ap (rowCells h) (place-row h c x (ltb (roomOf fan h x) (length lens)) refl))

@@ -17,9 +17,9 @@ use Rattle.laws_resize.specs.growth.Made.{kept, growMade}
 use Rattle.laws_resize.proofs.growth.Taller.{blobCells, Distinct, grow-old, grow-new, grow-root}
 use Rattle.laws_resize.proofs.growth.Order.{Follows, grow-follows}
 use Rattle.laws_resize.proofs.growth.Higher.{grow-spot}
-use Rattle.laws_resize.proofs.growth.Tops.{root-is, edge-is}
-use Rattle.laws_resize.proofs.growth.Locate.{none as noCell}
-use Rattle.laws_resize.proofs.growth.Root.{grown, blob}
+use Rattle.laws_resize.proofs.growth.RootAsItRises.{root-is, edge-is}
+use Rattle.laws_resize.proofs.growth.PthOfSubtree.{none as noCell}
+use Rattle.laws_resize.proofs.growth.RoomAtTheRoot.{grown, blob}
 
 -- the slots after the first
 drop-at : (p : ℕ) (l : List ℕ) → getD (drop 1 l) p past ≡ getD l (suc p) past

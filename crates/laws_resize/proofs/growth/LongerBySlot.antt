@@ -34,8 +34,8 @@ use Rattle.laws_resize.proofs.growth.Taller.{blobCells}
 use Rattle.laws_resize.proofs.growth.Sites.{lacks-held, held-lacks, held-ruled, site-slots}
 use Rattle.laws_resize.proofs.growth.Rooms.{shaped-room, numbered}
 use Rattle.laws_resize.proofs.growth.Kept.{last-row, same-room, AtEdge, top-grown, edge-kept}
-use Rattle.laws_resize.proofs.growth.Root.{grown as grown-whole}
-use Rattle.laws_resize.proofs.growth.After.{Apart, need, after-new, after-old, after-root}
+use Rattle.laws_resize.proofs.growth.RoomAtTheRoot.{grown as grown-whole}
+use Rattle.laws_resize.proofs.growth.HeldInTheEnd.{Apart, need, after-new, after-old, after-root}
 use Rattle.laws_resize.proofs.growth.Blocks.{grow-blocks}
 
 -- as many lengths as were asked for

@@ -18,7 +18,7 @@ use Rattle.laws.proofs.Inversions.{by-test, andThen-fine, passing-fine, fine-sa
 use Rattle.laws.proofs.Marks.{walk-marks}
 use Rattle.laws.proofs.Roots.{roots-root, roots-other}
 use Rattle.laws.proofs.Every.{Every}
-use Rattle.laws_resize.proofs.growth.Resized.{Standing, walk-standing}
+use Rattle.laws_resize.proofs.growth.ResizedBySlot.{Standing, walk-standing}
 
 -- the numbers of a range are below its end
 pub range-below : (from n end : ℕ) → from + n ≤ end → Every (λ s. s < end) (range from n)

@@ -26,12 +26,12 @@ use Rattle.laws_resize.proofs.resizing.Resized.{resized-longer, resized
 use Rattle.laws_resize.specs.growth.Sites.{sitesOf, sited, heldBy, rootRow, Once}
 use Rattle.laws_resize.specs.growth.Cuts.{heightOfLength}
 use Rattle.laws_resize.specs.growth.Forms.{past, grown, grownNew}
-use Rattle.laws_resize.specs.growth.Slots.{usableBelow, writtenHeld, shorterRoot, shorterHeld, taken, rise, longerHeld, resizedHeld}
-use Rattle.laws_resize.proofs.growth.Walks.{walk-once, free-apart}
-use Rattle.laws_resize.proofs.growth.Written.{written-held}
-use Rattle.laws_resize.proofs.growth.Shorter.{shorter-root, shorter-held}
-use Rattle.laws_resize.proofs.growth.After.{Apart}
-use Rattle.laws_resize.proofs.growth.Longer.{longer-new, longer-root, longer-old}
+use Rattle.laws_resize.specs.growth.HeldAfter.{usableBelow, writtenHeld, shorterRoot, shorterHeld, taken, rise, longerHeld, resizedHeld}
+use Rattle.laws_resize.proofs.growth.NoSlotTwice.{walk-once, free-apart}
+use Rattle.laws_resize.proofs.growth.WrittenBySlot.{written-held}
+use Rattle.laws_resize.proofs.growth.ShorterBySlot.{shorter-root, shorter-held}
+use Rattle.laws_resize.proofs.growth.HeldInTheEnd.{Apart}
+use Rattle.laws_resize.proofs.growth.LongerBySlot.{longer-new, longer-root, longer-old}
 use Rattle.laws_resize.proofs.growth.Usable.{usable-free, counter, counter-less, rising, passed}
 
 -- what is the same in each slot changes the same

@@ -16,10 +16,10 @@ use Rattle.meaning.specs.Lists.{joined}
 use Rattle.meaning.specs.Bytes.{Cell}
 use Rattle.meaning.specs.Shape.{up}
 use Rattle.meaning.specs.Tree.{cells, slotOf}
-use Rattle.laws_resize.specs.growth.Grow.{rowOf, fresh}
+use Rattle.laws_resize.specs.growth.Grow.{itemsOf, fresh}
 use Rattle.laws_resize.specs.growth.Made.{rowCells}
 use Rattle.laws.proofs.Totals.{up-zero}
-use Rattle.laws_resize.proofs.growth.Place.{fresh-full, fresh-at, up-more}
+use Rattle.laws_resize.proofs.growth.NewSubtreePlaces.{fresh-full, fresh-at, up-more}
 
 -- a full subtree has a block
 bulk-pos : (fan h : ℕ) → 1 ≤ bulk fan h
@@ -35,8 +35,8 @@ up-pos (suc n) f one e = omega arith
 module _ (fan : ℕ) where
   -- a subtree has at most a bulk
   pub row-most : (h : ℕ) → ((lens free : List ℕ) → length (cells h (fresh fan h lens free .0)) ≤ bulk fan h)
-      → (c : ℕ) (lens free : List ℕ) → length (rowCells h (rowOf (fresh fan h) c lens free .0)) ≤ c * bulk fan h
-  unfolding rowOf joined
+      → (c : ℕ) (lens free : List ℕ) → length (rowCells h (itemsOf (fresh fan h) c lens free .0)) ≤ c * bulk fan h
+  unfolding itemsOf joined
   row-most h ih zero lens free = omega arith
   row-most h ih (suc c) [] free = omega arith
   row-most h ih (suc c) (l ∷ ls) free =
