@@ -1,5 +1,5 @@
 -- The loop over the slots, need by need: a slot whose height is noted goes, any other stays as it is.
-use mathlib.Core.Path.{_≡_, _∙_}
+use mathlib.Core.Path.{_≡_, refl, _∙_}
 use mathlib.Core.List.{List}
 use mathlib.Core.Logic.{inl}
 use Prim.Native.Nat.{ℕ, _+_, _<_}

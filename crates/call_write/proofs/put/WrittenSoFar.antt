@@ -1,5 +1,5 @@
 -- Write inside a blob, need by need: the loop's turns, refusals 12 and 10, and what is noted decides.
-use mathlib.Core.Path.{_≡_, _∙_}
+use mathlib.Core.Path.{_≡_, refl, _∙_}
 use mathlib.Core.List.{List}
 use mathlib.Core.Logic.{inl}
 use Prim.Native.Nat.{ℕ, _+_, _*_, _≤_, _<_}
