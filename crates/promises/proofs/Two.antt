@@ -2,8 +2,10 @@
 use mathlib.Core.Path.{_≡_, refl, sym, ap, ap₂, subst, _∙_}
 use mathlib.Core.Bool.{true}
 use mathlib.Core.List.{List, [], _∷_, _++_, map, List·Memᴰ}
-use Prim.Native.Nat.{ℕ, zero, suc, _-_, _<_}
+use Prim.Native.Nat.{ℕ, zero, suc, _+_, _-_, _<_}
 use native.Mathlib.Omega.{arith}
+use borrow.Author.Tests.{ltb-false}
+use lib.Dec.{ltb}
 use lib.ListN.{length, getD}
 use lib.Seq.{take-length}
 use Rattle.meaning.specs.declared.Edition.{Edition}
@@ -14,10 +16,11 @@ use Rattle.meaning.specs.Bytes.{Cell}
 use Rattle.meaning.specs.Tree.{Tree, Blob, rootOf, contentOf, cellsOf, slotsOf, lengthOf}
 use Rattle.meaning.specs.Shape.{leavesFor, total, Shaped}
 use Rattle.meaning.specs.Walk.{fine, blobCheck}
-use Rattle.meaning.specs.Change.{Store}
-use Rattle.meaning.specs.Calls.{sized, newBlocks, live, readCall}
+use Rattle.meaning.specs.Change.{Change, Store}
+use Rattle.meaning.specs.Calls.{done, sized, rooted, reading, refusePast, newBlocks, live, readOn, readIn, readCall}
 use Rattle.meaning.specs.Answers.{Reads, readOut, yields}
 use Rattle.meaning.specs.Run.{Call, audit, write, resize, tellLength, read, says, perform, run, bookOf, blocksOf}
+use Rattle.laws.proofs.Numbers.{part-length}
 use Rattle.laws.proofs.Parts.{pasted-length, part-pasted}
 use Rattle.laws.proofs.Codec.{padded-length}
 use Rattle.laws.proofs.Heights.{height-enough, height-least}
@@ -25,7 +28,7 @@ use Rattle.laws.proofs.Shapes.{shaped-leaves, shaped-height, shaped-slots, bare
 use Rattle.laws.proofs.Walked.{walk-shaped}
 use Rattle.laws_resize.proofs.resizing.SlotCounts.{slots-for}
 use Rattle.laws_resize.proofs.resizing.Resized.{none-new}
-use Rattle.laws_sound.proofs.again.Outcomes.{sized-lengths}
+use Rattle.laws_sound.proofs.again.Outcomes.{done-same, refuseIf-done, afterCheck-done, sized-lengths, opened-done}
 use Rattle.laws_sound.proofs.again.Done.{Good}
 use Rattle.laws_sound.proofs.again.Runs.{run-good, run-live, run-end}
 use Rattle.laws.proofs.Every.{every-mem}
@@ -93,13 +96,24 @@ bytes-then e p S r offset d vs h =
     ap (part offset (length d)) bytes ∙ part-pasted offset d (contentOf b) fits in
     subst (λ (s : ℕ). says e S′ (read s offset (length d)) ≡ yields d) stays (says-so ∙ ap yields same)
 
+-- a read that is done gives as many bytes as were asked for
+read-length : (e : Edition) (S : Store) (r offset size : ℕ) {d : List ℕ} {cs : List Change}
+    → readCall e (S .pool) (S .records) r offset size ≡ done d cs → length d ≡ size
+unfolding readCall readIn reading rooted readOn refusePast lengthOf
+read-length e S r offset size h =
+    let (o, w) = opened-done e (S .pool) (S .records) _ h in
+    let (t, v) = refuseIf-done _ 3 _ w in
+    let (b, seen, f, u) = afterCheck-done (blobAt e S r) _ v in
+    let (fits, is) = refuseIf-done (ltb (lengthOf b) (offset + size)) 10 _ u in
+    ap length (sym (done-same is .0)) ∙ part-length offset size (contentOf b) (ltb-false (lengthOf b) (offset + size) fits)
+
 -- what a read says is what it leaves in the lent output
 read-filled : (e : Edition) (S : Store) (r offset size : ℕ) (d : List ℕ) → says e S (read r offset size) ≡ yields d → (x : Finished) (out out′ : List ℕ)
-    → Reads (readCall e (S .pool) (S .records) r offset size) x out out′ → out′ ≡ d
+    → Reads (readCall e (S .pool) (S .records) r offset size) x out out′ → (out′ ≡ d) × (length d ≡ size)
 unfolding readOut
 read-filled e S r offset size d h x out out′ a =
     let (v, cs, q, same) = said-done allBytes (readCall e (S .pool) (S .records) r offset size) d (sym (says-read e S r offset size) ∙ h) in
-    a .output ∙ ap (λ o. readOut o out) q ∙ same
+    (a .output ∙ ap (λ o. readOut o out) q ∙ same, ap length (sym same) ∙ read-length e S r offset size q)
 
 -- each moment of a run
 moment-passes : (e : Edition) → Proper e → (S : Store) → sized e (S .pool) (S .records) ≡ true → (calls : List Call) (M : Store)

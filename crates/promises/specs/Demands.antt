@@ -193,9 +193,9 @@ pub record DemandTwo (e : Edition) : Type 0 where
       → says e S (read r offset size) ≡ yields (part offset size (contentOf b))
   pub gives-leaf : (S : Store) (r : ℕ) (b : Blob) → Finds e S r b → (k s : ℕ) (d : List ℕ) → k < length (leavesOf b)
       → getD (leavesOf b) k (0, []) ≡ (s, d) → says e S (showLeaf r k) ≡ yields ((e .size * s + 16) ∷ length d ∷ d)
-  -- what a read says fills the whole lent output
+  -- what a read says fills the whole lent output: as many bytes as were asked for
   pub filled : (S : Store) (r offset size : ℕ) (d : List ℕ) → says e S (read r offset size) ≡ yields d → (x : Finished) (out out′ : List ℕ)
-      → Reads (readCall e (S .pool) (S .records) r offset size) x out out′ → out′ ≡ d
+      → Reads (readCall e (S .pool) (S .records) r offset size) x out out′ → (out′ ≡ d) × (length d ≡ size)
   -- each blob that the pool check finds, the blob check finds from its root
   pub alive : (S : Store) (bs : List Blob) (b : Blob) → Passes e S bs → List·Memᴰ b bs → Finds e S (rootOf b) b
   -- audit gives the count of live slots, on any store that passes: the sum, over its blobs, of the block total for each length
