@@ -6,13 +6,14 @@ use mathlib.Core.List.{List}
 use Prim.Native.Nat.{ℕ, _+_, _≤_, _<_}
 use native.Mathlib.Omega.{arith}
 use borrow.Author.Tests.{lt-ltb, le-leb}
-use lib.ListN.{length}
+use lib.ListN.{length, replicate}
 use Rattle.meaning.specs.declared.Edition.{Edition}
 use Rattle.meaning.specs.declared.Refusal.{Refusal}
 use Rattle.meaning.specs.declared.Finished.{Finished}
 use Rattle.meaning.specs.declared.Finished.the-variants as finishedCase
 use Rattle.meaning.specs.Lists.{pick}
 use Rattle.meaning.specs.Edition.{Proper}
+use Rattle.meaning.specs.Bytes.{recordAt, recordOf}
 use Rattle.meaning.specs.Tree.{Blob, leavesOf, lengthOf}
 use Rattle.meaning.specs.Refusals.{refusalOf, at, nowhere}
 use Rattle.meaning.specs.Walk.{fault, fine}
@@ -22,7 +23,10 @@ use Rattle.meaning.specs.Calls.{readOn, readIn, showOn, showIn, createOn, creat
 use Rattle.meaning.specs.Calls.{lengthCall, readCall, showCall, auditCall, createCall, writeCall, resizeCall, deleteCall}
 use Rattle.meaning.specs.Answers.{wipeAnswer, Reads, readOut, Said, yields, refuses, finishedSaid}
 use Rattle.meaning.specs.Run.{Call, create, audit, write, resize, delete, tellLength, read, showLeaf, says, perform}
+use Rattle.laws.proofs.Free.{free-record, free-length}
 use Rattle.laws.proofs.OneToOne.{length-said-same, audit-said-same, created-said-same, changed-said-same, finished-said-same, leaf-said-same}
+use Rattle.laws_history.proofs.Started.{wipe-starts}
+use Rattle.laws_sound.proofs.again.Outcomes.{sized-lengths}
 use Rattle.promises.proofs.Said.{saidBy, oneNumber, noNumber, allBytes, leafShown, said-refused, refused-said}
 use Rattle.promises.proofs.Said.{says-create, says-audit, says-write, says-resize, says-delete, says-length, says-read, says-show}
 use Rattle.promises.proofs.Stores.{reads}
@@ -199,10 +203,23 @@ module _ (e : Edition) (p : Proper e) (S : Store) where
       go true h = let z : _≡_ {A = ℕ} 0 1 = cc in absurd (omega arith)
       go false h = let k : q ≡ nowhere 1 = cc in (refl, k)
 
-  -- what it leaves
-  wipe-leaves : afterWipe e S ≡ pick (sized e P R) (wiped e N) S
-  unfolding afterWipe
-  wipe-leaves = refl
+  -- what it leaves: zeros, and free records at version 0
+  wipe-leaves : sized e P R ≡ true
+      → (afterWipe e S .pool ≡ replicate (length P) 0) × (length (afterWipe e S .records) ≡ length R)
+      × ((s : ℕ) → s < N → recordAt (afterWipe e S .records) s ≡ recordOf 0 0)
+  unfolding wiped
+  wipe-leaves h =
+      let l = sized-lengths e P R h in
+      let q = wipe-starts e S h in (
+        ap (λ (T : Store). T .pool) q ∙ ap (λ (n : ℕ). replicate {A = ℕ} n 0) (sym (l .whole)),
+        ap (λ (T : Store). length (T .records)) q ∙ free-length N ∙ sym (l .lines),
+        (λ s low. ap (λ (T : Store). recordAt (T .records) s) q ∙ free-record N s low),
+      )
+
+  -- refused, the store as it was
+  wipe-untouched : sized e P R ≡ false → afterWipe e S ≡ S
+  unfolding afterWipe pick
+  wipe-untouched h = rw h
 
 -- demand one
 pub one : (e : Edition) → Proper e → DemandOne e
@@ -214,6 +231,7 @@ one e p = record {
   unfilled = read-unfilled e p;
   wipe = wipe-exactly e p;
   wiping = wipe-leaves e p;
+  unwiped = wipe-untouched e p;
   one-end = λ say o P R x y P′ R′ P″ R″ a b. (a .answer ∙ sym (b .answer), a .pool ∙ sym (b .pool), a .records ∙ sym (b .records));
   one-wipe = λ P R x y P′ R′ P″ R″ a b. (a .answer ∙ sym (b .answer), a .pool ∙ sym (b .pool), a .records ∙ sym (b .records));
   one-read = λ o x y out out′ out″ a b. (a .answer ∙ sym (b .answer), a .output ∙ sym (b .output));

@@ -8,7 +8,7 @@ use mathlib.Core.Bool.{true, false}
 use mathlib.Core.List.{List, [], _∷_, _++_, map, List·Memᴰ}
 use Prim.Native.Nat.{ℕ, zero, suc, _+_, _-_, _*_, _^_, _≤_, _<_}
 use lib.ListN.{length, getD, take, replicate}
-use Rattle.meaning.specs.Lists.{pick, part, pasted, padded}
+use Rattle.meaning.specs.Lists.{part, pasted, padded}
 use Rattle.meaning.specs.Bytes.{Cell, encoded, block, recordAt, recordOf, state, recorded, soundRecord, lastVersion}
 use Rattle.meaning.specs.Tree.{Tree, Blob, rootOf, contentOf, leavesOf, cellsOf, slotsOf, lengthOf, Held, nothing, just, held}
 use Rattle.meaning.specs.Shape.{leavesFor, heightFor, total, Shaped}
@@ -16,7 +16,7 @@ use Rattle.meaning.specs.Refusals.{at, nowhere}
 use Rattle.meaning.specs.Walk.{Found, fault, fine, andThen, blobCheck, poolCheck}
 use Rattle.meaning.specs.Change.{Store}
 use Rattle.meaning.specs.Resize as resizing
-use Rattle.meaning.specs.Calls.{Outcome, slotsIn, sized, usable, live, newBlocks, readCall, wiped, afterWipe}
+use Rattle.meaning.specs.Calls.{Outcome, slotsIn, sized, usable, live, newBlocks, readCall, afterWipe}
 use Rattle.meaning.specs.Answers.{wipeAnswer, Ends, Wipes, Reads, Said, yields, refuses, lengthSaid, auditSaid, createdSaid, changedSaid, finishedSaid, leafSaid}
 use Rattle.meaning.specs.Run.{Call, create, audit, write, resize, delete, tellLength, read, showLeaf, says, perform, run, bookOf, blocksOf}
 use Rattle.meaning.specs.declared.Edition.{Edition}
@@ -120,7 +120,11 @@ pub record DemandOne (e : Edition) : Type 1 where
       → Reads (readCall e (S .pool) (S .records) r offset size) x out out′ → out′ ≡ out
   -- wipe checks 1 only
   pub wipe : (S : Store) (q : Refusal) → (finishedSaid (wipeAnswer e (S .pool) (S .records)) ≡ refuses q) ↔ (sized e (S .pool) (S .records) ≡ false) × (q ≡ nowhere 1)
-  pub wiping : (S : Store) → afterWipe e S ≡ pick (sized e (S .pool) (S .records)) (wiped e (slotsAt e S)) S
+  -- it leaves the pool all zeros, each record free, version 0, and as many of both as there were; refused, the store as it was
+  pub wiping : (S : Store) → sized e (S .pool) (S .records) ≡ true
+      → (afterWipe e S .pool ≡ replicate (length (S .pool)) 0) × (length (afterWipe e S .records) ≡ length (S .records))
+      × ((s : ℕ) → s < slotsAt e S → recordAt (afterWipe e S .records) s ≡ recordOf 0 0)
+  pub unwiped : (S : Store) → sized e (S .pool) (S .records) ≡ false → afterWipe e S ≡ S
   -- two outcomes that meet one promise are equal: answer, pool and records; answer and output
   pub one-end : {A X : Type 0} (say : Outcome A → X) (o : Outcome A) (P R : List ℕ) (x y : X) (P′ R′ P″ R″ : List ℕ)
       → Ends e say o P R x P′ R′ → Ends e say o P R y P″ R″ → (x ≡ y) × (P′ ≡ P″) × (R′ ≡ R″)
