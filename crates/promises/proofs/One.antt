@@ -140,7 +140,7 @@ module _ (e : Edition) (p : Proper e) (S : Store) where
       by-check (blobAt e S r) k (Table e S c q) h
       (λ f. refusals-4-to-9 o roots (walk ∙ fault-one (blobAt e S r) q f))
       (λ b seen f. then b
-      (record { opened = o; root = roots r one; passes = (b ∷ [], seen, walk ∙ fine-one (blobAt e S r) b seen f); found = (seen, f) }))
+      (record { finds = (o, roots r one, (seen, f)); passes = (b ∷ [], seen, walk ∙ fine-one (blobAt e S r) b seen f) }))
 
   -- one that changes it
   changing-rest : {A : Type 0} (c : Call) (r : ℕ) (k : Blob → Outcome A) → named c ≡ r ∷ [] → walked e S c ≡ poolAt e S
@@ -152,7 +152,7 @@ module _ (e : Edition) (p : Proper e) (S : Store) where
       (λ bs seen f w.
       let is = roots r one in
       let m = blob-among e N P R r bs (pool-found e p N P R (sized-lengths e P R (o .lengths) .whole) f) (is .0) (is .1) in
-      then (m .blob) (record { opened = o; root = is; passes = (bs, seen, walk ∙ f); found = (_, among-walk e N P R r bs m) })
+      then (m .blob) (record { finds = (o, is, (_, among-walk e N P R r bs m)); passes = (bs, seen, walk ∙ f) })
       (sym (among-met e N P R r bs k m) ∙ w))
 
   -- and back: behind all that, it is what it does with the blob
@@ -160,11 +160,12 @@ module _ (e : Edition) (p : Proper e) (S : Store) where
       → opened e P R (changing e N P R r k) ≡ k b
   unfolding changing
   changing-met c r b k walk m =
+      let (o, root, (mark, found)) = m .finds in
       let (bs, seen, f) = m .passes in
       let g : poolAt e S ≡ fine bs seen = sym walk ∙ f in
-      let a = blob-among e N P R r bs (pool-found e p N P R (sized-lengths e P R (m .opened .lengths) .whole) g) (m .root .0) (m .root .1) in
-      let same : a .blob ≡ b = fine-same (sym (among-walk e N P R r bs a) ∙ m .found .1) .0 in
-      opened-passed e S _ (m .opened) ∙ root-passed e S _ r (m .root) ∙ check-passed (poolAt e S) (withBlob r k) bs seen g
+      let a = blob-among e N P R r bs (pool-found e p N P R (sized-lengths e P R (o .lengths) .whole) g) (root .0) (root .1) in
+      let same : a .blob ≡ b = fine-same (sym (among-walk e N P R r bs a) ∙ found) .0 in
+      opened-passed e S _ o ∙ root-passed e S _ r root ∙ check-passed (poolAt e S) (withBlob r k) bs seen g
       ∙ among-met e N P R r bs k a ∙ ap k same
 
   -- each call's chain

@@ -74,14 +74,14 @@ module _ (e : Edition) (p : Proper e) (S : Store) where
       → says e S (read r offset size) ≡ refuses (nowhere 10)
   unfolding readCall readIn
   read-past r offset size b m h =
-      says-read e S r offset size ∙ refused-said allBytes _ (nowhere 10) (reads e p S r b (m .opened, m .root, m .found) (readOn e N P R offset size)
+      says-read e S r offset size ∙ refused-said allBytes _ (nowhere 10) (reads e p S r b (m .finds) (readOn e N P R offset size)
       ∙ unfold readOn refusePast in if-refused _ 10 _ (lt-ltb (lengthOf b) (offset + size) h))
 
   -- 10 of show
   show-past : (r k : ℕ) (b : Blob) → Met e S (showLeaf r k) r b → length (leavesOf b) ≤ k → says e S (showLeaf r k) ≡ refuses (nowhere 10)
   unfolding showCall showIn
   show-past r k b m h =
-      says-show e S r k ∙ refused-said (leafShown e P) _ (nowhere 10) (reads e p S r b (m .opened, m .root, m .found) (showOn e N P R k)
+      says-show e S r k ∙ refused-said (leafShown e P) _ (nowhere 10) (reads e p S r b (m .finds) (showOn e N P R k)
       ∙ unfold showOn in if-refused _ 10 _ (le-leb (length (leavesOf b)) k h))
 
   -- 11 of resize

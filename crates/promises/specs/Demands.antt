@@ -73,12 +73,14 @@ pub record Opened (e : Edition) (S : Store) : Type 0 where
   pub lengths : sized e (S .pool) (S .records) ≡ true
   pub layout : (s : ℕ) → s < slotsAt e S → soundRecord (recordAt (S .records) s) ≡ true
 
--- refusals 1 to 9 do not hold of a call that names root r, and b is that root's blob
+-- root r's blob is b, by the blob check alone, as the reading calls make it: refusals 1 to 9 do not hold of them
+abbrev pub Finds : Edition → Store → ℕ → Blob → Type 0
+Finds e S r b = Opened e S × IsRoot e S r × ((seen : List ℕ) × (blobAt e S r ≡ fine b seen))
+
+-- refusals 1 to 9 do not hold of call c, which names root r, and b is that root's blob: the blob check finds it, and the call's own walk passes
 pub record Met (e : Edition) (S : Store) (c : Call) (r : ℕ) (b : Blob) : Type 0 where
-  pub opened : Opened e S
-  pub root : IsRoot e S r
+  pub finds : Finds e S r b
   pub passes : (bs : List Blob) × (seen : List ℕ) × (walked e S c ≡ fine bs seen)
-  pub found : (seen : List ℕ) × (blobAt e S r ≡ fine b seen)
 
 -- blob b has a block at the last version
 abbrev pub Worn : Store → Blob → Type 0
@@ -147,10 +149,6 @@ shapeOf b = record { height = b .height; tree = bareTree (b .height) (b .tree) }
 -- a store that passes every check, with its blobs
 abbrev pub Passes : Edition → Store → List Blob → Type 0
 Passes e S bs = Opened e S × ((seen : List ℕ) × (poolAt e S ≡ fine bs seen))
-
--- root r's blob is b, by the blob check alone, as the reading calls make it: refusals 1 to 9 do not hold of them
-abbrev pub Finds : Edition → Store → ℕ → Blob → Type 0
-Finds e S r b = Opened e S × IsRoot e S r × ((seen : List ℕ) × (blobAt e S r ≡ fine b seen))
 
 -- blobs as a book has them: each one's root and length
 abbrev pub asBook : List Blob → List (ℕ × ℕ)
