@@ -4,7 +4,7 @@ use Rattle.meaning.specs.declared.Edition.{Edition}
 use Rattle.meaning.specs.Edition as edition
 use Rattle.meaning.specs.Edition.{Proper}
 use Rattle.laws.proofs.Editions.{one-proper}
-use Rattle.promises.proofs.Table.{one}
+use Rattle.promises.proofs.One.{one}
 use Rattle.promises.proofs.Two.{two}
 use Rattle.promises.proofs.Three.{three}
 use Rattle.promises.specs.Demands.{DemandOne, DemandTwo, DemandThree}

@@ -3,8 +3,8 @@ pub mod Said
 pub mod Faults
 pub mod Refused
 pub mod Stores
+pub mod RefusedExactly
 pub mod One
-pub mod Table
 pub mod Done
 pub mod Two
 pub mod Three

@@ -1,125 +1,41 @@
--- Demand one: what each call is refused with, exactly. A call is a chain: refusals 1 and 2, refusal 3 where it names a root, its walk, and then what
--- it does with the blob that the walk found.
+-- Demand one, whole: the table holds both ways, its numbers, what is left untouched, and the wipe.
 use mathlib.Core.Path.{_≡_, refl, sym, ap, subst, _∙_}
-use mathlib.Core.Logic.{_⊎_, inl, inr, ⊎-elim}
-use mathlib.Core.Bool.{true, false}
-use mathlib.Core.List.{List, [], _∷_}
-use Prim.Native.Nat.{ℕ, _+_, _<_}
+use mathlib.Core.Logic.{_↔_, _⊎_, inl, inr}
+use mathlib.Core.Bool.{Bool, true, false}
+use mathlib.Core.List.{List}
+use Prim.Native.Nat.{ℕ, _+_, _≤_, _<_}
 use native.Mathlib.Omega.{arith}
-use borrow.Author.Tests.{ltb-true, leb-true}
-use lib.Dec.{leb, ltb}
-use lib.ListN.{length}
+use borrow.Author.Tests.{lt-ltb, le-leb}
+use lib.ListN.{length, replicate}
 use Rattle.meaning.specs.declared.Edition.{Edition}
 use Rattle.meaning.specs.declared.Refusal.{Refusal}
+use Rattle.meaning.specs.declared.Finished.{Finished}
+use Rattle.meaning.specs.declared.Finished.the-variants as finishedCase
+use Rattle.meaning.specs.Lists.{pick}
 use Rattle.meaning.specs.Edition.{Proper}
-use Rattle.meaning.specs.Bytes.{recordAt, soundRecord}
+use Rattle.meaning.specs.Bytes.{recordAt, recordOf}
 use Rattle.meaning.specs.Tree.{Blob, leavesOf, lengthOf}
-use Rattle.meaning.specs.Refusals.{at, nowhere}
-use Rattle.meaning.specs.Walk.{Found, fault, fine, andThen}
+use Rattle.meaning.specs.Refusals.{refusalOf, at, nowhere}
+use Rattle.meaning.specs.Walk.{fault, fine}
 use Rattle.meaning.specs.Change.{Store}
-use Rattle.meaning.specs.Calls.{Outcome, refused, afterCheck, sized, opened, withBlob, rooted, reading, changing}
-use Rattle.meaning.specs.Calls.{refusePast, refuseFull}
-use Rattle.meaning.specs.Calls.{lengthOn, lengthIn, readOn, readIn, showOn, showIn, auditOn, auditIn, createOn, createIn, writeOn, writeIn, resizeOn, resizeIn}
-use Rattle.meaning.specs.Calls.{deleteOn, deleteIn, lengthCall, readCall, showCall, auditCall, createCall, writeCall, resizeCall, deleteCall}
-use Rattle.meaning.specs.Answers.{refuses}
-use Rattle.meaning.specs.Run.{Call, create, audit, write, resize, delete, tellLength, read, showLeaf, says}
-use Rattle.laws.proofs.Inversions.{fine-same}
-use Rattle.laws_sound.proofs.sound.Pools.{pool-found}
-use Rattle.laws_sound.proofs.again.Outcomes.{sized-lengths, blob-among, among-met, among-walk}
+use Rattle.meaning.specs.Calls.{Outcome, after, sized, refusePast, refuseFull, wiped, afterWipe}
+use Rattle.meaning.specs.Calls.{readOn, readIn, showOn, showIn, createOn, createIn, writeOn, writeIn, resizeOn, resizeIn}
+use Rattle.meaning.specs.Calls.{lengthCall, readCall, showCall, auditCall, createCall, writeCall, resizeCall, deleteCall}
+use Rattle.meaning.specs.Answers.{wipeAnswer, Reads, readOut, Said, yields, refuses, finishedSaid}
+use Rattle.meaning.specs.Run.{Call, create, audit, write, resize, delete, tellLength, read, showLeaf, says, perform}
+use Rattle.laws.proofs.Free.{free-record, free-length}
+use Rattle.laws.proofs.OneToOne.{length-said-same, audit-said-same, created-said-same, changed-said-same, finished-said-same, leaf-said-same}
+use Rattle.laws_history.proofs.Started.{wipe-starts}
+use Rattle.laws_sound.proofs.again.Outcomes.{sized-lengths}
 use Rattle.promises.proofs.Said.{saidBy, oneNumber, noNumber, allBytes, leafShown, said-refused, refused-said}
 use Rattle.promises.proofs.Said.{says-create, says-audit, says-write, says-resize, says-delete, says-length, says-read, says-show}
-use Rattle.promises.proofs.Faults.{by-then}
-use Rattle.promises.proofs.Refused.{done-refused, by-if, by-check, check-refused, check-passed}
-use Rattle.promises.proofs.Refused.{by-opened, lengths-refused, layout-refused, opened-passed, by-rooted, root-refused, root-passed}
-use Rattle.promises.proofs.Refused.{by-worn}
-use Rattle.promises.specs.Demands.{slotsAt, blobAt, poolAt, freeAt, newAt, named, walked, IsRoot, Opened, Met}
+use Rattle.promises.proofs.Stores.{reads}
+use Rattle.promises.proofs.Faults.{OfWalk, blob-numbered, pool-numbered}
+use Rattle.promises.proofs.Refused.{if-refused, check-passed, opened-passed, worn-refused, worn-passed}
+use Rattle.promises.proofs.RefusedExactly.{chain, chain-table, chain-1, chain-2, chain-3, chain-walk, one-fault, changing-met}
+use Rattle.promises.specs.Demands.{slotsAt, blobAt, poolAt, freeAt, newAt, walked, Opened, Met, Worn, DemandOne}
 use Rattle.promises.specs.Demands.{Table, refusal-1, refusal-2, refusal-3, refusals-4-to-9, refusal-12-write, refusal-12-resize, refusal-10-write, refusal-10-read, refusal-10-show}
 use Rattle.promises.specs.Demands.{refusal-11-resize, refusal-11-create}
-
--- a root is one
-one-root : {r s : ℕ} → _≡_ {A = List ℕ} (r ∷ []) (s ∷ []) → r ≡ s
-one-root h = cc
-
--- and not none
-no-root : {B : Type 0} {r : ℕ} → _≡_ {A = List ℕ} [] (r ∷ []) → B
-no-root h = let z : _≡_ {A = ℕ} 0 1 = cc in absurd (omega arith)
-
--- a call as a chain
-pub record Chain (e : Edition) (S : Store) (c : Call) : Type 1 where
-  pub Value : Type 0
-  pub values : Value → List ℕ
-  -- behind refusals 1 and 2, and behind refusal 3
-  pub inside : Outcome Value
-  pub behind : Outcome Value
-  pub is : says e S c ≡ saidBy values (opened e (S .pool) (S .records) inside)
-  pub roots : ((named c ≡ []) × (inside ≡ behind)) ⊎ ((r : ℕ) × (named c ≡ r ∷ []) × (inside ≡ rooted e (slotsAt e S) (S .pool) (S .records) r behind))
-  pub faults : (q : Refusal) → walked e S c ≡ fault q → behind ≡ refused q
-  pub rest : (q : Refusal) → Opened e S → ((r : ℕ) → named c ≡ r ∷ [] → IsRoot e S r) → behind ≡ refused q → Table e S c q
-
--- read from left to right: why it is refused
-module _ (e : Edition) (S : Store) (c : Call) (x : Chain e S c) where
-  -- behind refusals 1 and 2
-  behind-table : (q : Refusal) → Opened e S → x .inside ≡ refused q → Table e S c q
-  behind-table q o h =
-      ⊎-elim
-      (λ (none, same). x .rest q o (λ r is. no-root (sym none ∙ is)) (sym same ∙ h))
-      (λ (r, one, same). by-rooted e S (x .behind) r (Table e S c q) (sym same ∙ h)
-      (λ bad q≡. refusal-3 r o one bad q≡)
-      (λ is w. x .rest q o (λ s k. subst (IsRoot e S) (one-root (sym one ∙ k)) is) w))
-      (x .roots)
-
-  -- from the start
-  pub chain-table : (q : Refusal) → says e S c ≡ refuses q → Table e S c q
-  chain-table q h =
-      by-opened e S (x .inside) (Table e S c q) (said-refused (x .values) _ q (sym (x .is) ∙ h)) refusal-1 refusal-2 (behind-table q)
-
-  -- and back, for the refusals that all calls share
-  refused-by : (q : Refusal) → opened e (S .pool) (S .records) (x .inside) ≡ refused q → says e S c ≡ refuses q
-  refused-by q h = x .is ∙ refused-said (x .values) _ q h
-
-  -- refusal 1
-  pub chain-1 : (q : Refusal) → sized e (S .pool) (S .records) ≡ false → q ≡ nowhere 1 → says e S c ≡ refuses q
-  chain-1 q h k = refused-by q (lengths-refused e S (x .inside) h ∙ ap refused (sym k))
-
-  -- refusal 2
-  pub chain-2 : (q : Refusal) (s : ℕ) → sized e (S .pool) (S .records) ≡ true → s < slotsAt e S → soundRecord (recordAt (S .records) s) ≡ false
-      → ((t : ℕ) → t < s → soundRecord (recordAt (S .records) t) ≡ true) → q ≡ at 2 s → says e S c ≡ refuses q
-  chain-2 q s h low bad f k = refused-by q (layout-refused e S (x .inside) s h low bad f ∙ ap refused (sym k))
-
-  -- refusal 3
-  pub chain-3 : (q : Refusal) (r : ℕ) → Opened e S → named c ≡ r ∷ [] → (IsRoot e S r → ⊥) → q ≡ nowhere 3 → says e S c ≡ refuses q
-  chain-3 q r o one bad k = refused-by q (opened-passed e S (x .inside) o ∙ go (x .roots) ∙ ap refused (sym k))
-    where
-      go : ((named c ≡ []) × (x .inside ≡ x .behind))
-          ⊎ ((s : ℕ) × (named c ≡ s ∷ []) × (x .inside ≡ rooted e (slotsAt e S) (S .pool) (S .records) s (x .behind)))
-          → x .inside ≡ refused (nowhere 3)
-      go (inl (none, same)) = no-root (sym none ∙ one)
-      go (inr (s, is, same)) =
-          same ∙ root-refused e S (x .behind) s (λ root. bad (subst (IsRoot e S) (one-root (sym is ∙ one)) root))
-
-  -- refusals 4 to 9
-  pub chain-walk : (q : Refusal) → Opened e S → ((r : ℕ) → named c ≡ r ∷ [] → IsRoot e S r) → walked e S c ≡ fault q → says e S c ≡ refuses q
-  chain-walk q o roots f = refused-by q (opened-passed e S (x .inside) o ∙ go (x .roots) ∙ x .faults q f)
-    where
-      go : ((named c ≡ []) × (x .inside ≡ x .behind))
-          ⊎ ((s : ℕ) × (named c ≡ s ∷ []) × (x .inside ≡ rooted e (slotsAt e S) (S .pool) (S .records) s (x .behind)))
-          → x .inside ≡ x .behind
-      go (inl (none, same)) = same
-      go (inr (s, is, same)) = same ∙ root-passed e S (x .behind) s (roots s is)
-
--- a fault of a walk from one root
-pub one-fault : (f : Found Blob) (q : Refusal) → andThen f (λ b seen. fine (b ∷ []) seen) ≡ fault q → f ≡ fault q
-one-fault f q h = by-then f _ (f ≡ fault q) h (λ x. x) (λ b seen o z. let n : _≡_ {A = ℕ} 0 1 = cc in absurd (omega arith))
-
--- and back
-fault-one : (f : Found Blob) (q : Refusal) → f ≡ fault q → andThen f (λ b seen. fine (b ∷ []) seen) ≡ fault q
-unfolding andThen
-fault-one f q h = rw h
-
--- one that went well
-fine-one : (f : Found Blob) (b : Blob) (seen : List ℕ) → f ≡ fine b seen → andThen f (λ b seen. fine (b ∷ []) seen) ≡ fine (b ∷ []) seen
-unfolding andThen
-fine-one f b seen h = rw h
 
 module _ (e : Edition) (p : Proper e) (S : Store) where
   abbrev N : ℕ
@@ -131,145 +47,193 @@ module _ (e : Edition) (p : Proper e) (S : Store) where
   abbrev R : List ℕ
   R = S .records
 
-  -- a call that reads the blob of root r
-  reading-rest : {A : Type 0} (c : Call) (r : ℕ) (k : Blob → Outcome A) → named c ≡ r ∷ []
-      → walked e S c ≡ andThen (blobAt e S r) (λ b seen. fine (b ∷ []) seen)
-      → (q : Refusal) → ((b : Blob) → Met e S c r b → k b ≡ refused q → Table e S c q)
-      → Opened e S → ((s : ℕ) → named c ≡ s ∷ [] → IsRoot e S s) → afterCheck (blobAt e S r) k ≡ refused q → Table e S c q
-  reading-rest c r k one walk q then o roots h =
-      by-check (blobAt e S r) k (Table e S c q) h
-      (λ f. refusals-4-to-9 o roots (walk ∙ fault-one (blobAt e S r) q f))
-      (λ b seen f. then b
-      (record { finds = (o, roots r one, (seen, f)); passes = (b ∷ [], seen, walk ∙ fine-one (blobAt e S r) b seen f) }))
+  -- the refusals of one call each: 12 of write
+  write-worn : (r offset : ℕ) (d : List ℕ) (b : Blob) → Met e S (write r offset d) r b → Worn S b → says e S (write r offset d) ≡ refuses (nowhere 12)
+  unfolding writeCall writeIn walked
+  write-worn r offset d b m worn =
+      says-write e S r offset d ∙ refused-said noNumber _ (nowhere 12) (changing-met e p S (write r offset d) r b (writeOn e N P R offset d) refl m
+      ∙ unfold writeOn in worn-refused e S _ b worn)
 
-  -- one that changes it
-  changing-rest : {A : Type 0} (c : Call) (r : ℕ) (k : Blob → Outcome A) → named c ≡ r ∷ [] → walked e S c ≡ poolAt e S
-      → (q : Refusal) → ((b : Blob) → Met e S c r b → k b ≡ refused q → Table e S c q)
-      → Opened e S → ((s : ℕ) → named c ≡ s ∷ [] → IsRoot e S s) → afterCheck (poolAt e S) (withBlob r k) ≡ refused q → Table e S c q
-  changing-rest c r k one walk q then o roots h =
-      by-check (poolAt e S) (withBlob r k) (Table e S c q) h
-      (λ f. refusals-4-to-9 o roots (walk ∙ f))
-      (λ bs seen f w.
-      let is = roots r one in
-      let m = blob-among e N P R r bs (pool-found e p N P R (sized-lengths e P R (o .lengths) .whole) f) (is .0) (is .1) in
-      then (m .blob) (record { finds = (o, is, (_, among-walk e N P R r bs m)); passes = (bs, seen, walk ∙ f) })
-      (sym (among-met e N P R r bs k m) ∙ w))
+  -- 12 of resize
+  resize-worn : (r len : ℕ) (b : Blob) → Met e S (resize r len) r b → Worn S b → says e S (resize r len) ≡ refuses (nowhere 12)
+  unfolding resizeCall resizeIn walked
+  resize-worn r len b m worn =
+      says-resize e S r len ∙ refused-said noNumber _ (nowhere 12) (changing-met e p S (resize r len) r b (resizeOn e N P R len) refl m
+      ∙ unfold resizeOn in worn-refused e S _ b worn)
 
-  -- and back: behind all that, it is what it does with the blob
-  pub changing-met : {A : Type 0} (c : Call) (r : ℕ) (b : Blob) (k : Blob → Outcome A) → walked e S c ≡ poolAt e S → Met e S c r b
-      → opened e P R (changing e N P R r k) ≡ k b
-  unfolding changing
-  changing-met c r b k walk m =
-      let (o, root, (mark, found)) = m .finds in
-      let (bs, seen, f) = m .passes in
-      let g : poolAt e S ≡ fine bs seen = sym walk ∙ f in
-      let a = blob-among e N P R r bs (pool-found e p N P R (sized-lengths e P R (o .lengths) .whole) g) (root .0) (root .1) in
-      let same : a .blob ≡ b = fine-same (sym (among-walk e N P R r bs a) ∙ found) .0 in
-      opened-passed e S _ o ∙ root-passed e S _ r root ∙ check-passed (poolAt e S) (withBlob r k) bs seen g
-      ∙ among-met e N P R r bs k a ∙ ap k same
+  -- 10 of write
+  write-past : (r offset : ℕ) (d : List ℕ) (b : Blob) → Met e S (write r offset d) r b → (Worn S b → ⊥) → lengthOf b < offset + length d
+      → says e S (write r offset d) ≡ refuses (nowhere 10)
+  unfolding writeCall writeIn walked
+  write-past r offset d b m young h =
+      says-write e S r offset d ∙ refused-said noNumber _ (nowhere 10) (changing-met e p S (write r offset d) r b (writeOn e N P R offset d) refl m
+      ∙ unfold writeOn refusePast in worn-passed e S _ b young ∙ if-refused _ 10 _ (lt-ltb (lengthOf b) (offset + length d) h))
 
-  -- each call's chain
-  pub chain : (c : Call) → Chain e S c
-  chain create = record {
-    Value = ℕ;
-    values = oneNumber;
-    inside = createIn e N P R;
-    behind = createIn e N P R;
-    is = unfold createCall in says-create e S;
-    roots = inl (unfold named in refl, refl);
-    faults = λ q f. unfold walked createIn in check-refused (poolAt e S) (createOn e N P R) q f;
-    rest = λ q o roots h. unfold createIn createOn refuseFull walked in
-        by-check (poolAt e S) (createOn e N P R) (Table e S create q) h
-        (λ f. refusals-4-to-9 o roots f)
-        (λ bs seen f w. by-if (ltb (length (freeAt e S)) 1) 11 _ (Table e S create q) w
-        (λ t k. refusal-11-create bs seen refl o f (ltb-true (length (freeAt e S)) 1 t) k) (λ t z. done-refused z));
-  }
-  chain audit = record {
-    Value = ℕ;
-    values = oneNumber;
-    inside = auditIn e N P R;
-    behind = auditIn e N P R;
-    is = unfold auditCall in says-audit e S;
-    roots = inl (unfold named in refl, refl);
-    faults = λ q f. unfold walked auditIn in check-refused (poolAt e S) (auditOn e N P R) q f;
-    rest = λ q o roots h. unfold auditIn auditOn walked in
-        by-check (poolAt e S) (auditOn e N P R) (Table e S audit q) h (λ f. refusals-4-to-9 o roots f) (λ bs seen f w. done-refused w);
-  }
-  chain (delete r) = record {
-    Value = Unit {0};
-    values = noNumber;
-    inside = deleteIn e N P R r;
-    behind = afterCheck (poolAt e S) (withBlob r (deleteOn e N P R));
-    is = unfold deleteCall in says-delete e S r;
-    roots = inr (r, unfold named in refl, unfold deleteIn changing in refl);
-    faults = λ q f. unfold walked in check-refused (poolAt e S) _ q f;
-    rest = λ q o roots h. changing-rest (delete r) r (deleteOn e N P R) (unfold named in refl) (unfold walked in refl) q
-        (λ b m w. unfold deleteOn in done-refused w) o roots h;
-  }
-  chain (write r offset d) = record {
-    Value = Unit {0};
-    values = noNumber;
-    inside = writeIn e N P R r offset d;
-    behind = afterCheck (poolAt e S) (withBlob r (writeOn e N P R offset d));
-    is = unfold writeCall in says-write e S r offset d;
-    roots = inr (r, unfold named in refl, unfold writeIn changing in refl);
-    faults = λ q f. unfold walked in check-refused (poolAt e S) _ q f;
-    rest = λ q o roots h. changing-rest (write r offset d) r (writeOn e N P R offset d) (unfold named in refl) (unfold walked in refl) q
-        (λ b m w. unfold writeOn refusePast in
-        by-worn e S _ b (Table e S (write r offset d) q) w
-        (λ worn k. refusal-12-write r offset d b refl m worn k)
-        (λ young w. by-if (ltb (lengthOf b) (offset + length d)) 10 _ (Table e S (write r offset d) q) w
-        (λ t k. refusal-10-write r offset d b refl m young (ltb-true (lengthOf b) (offset + length d) t) k) (λ t z. done-refused z))) o roots h;
-  }
-  chain (resize r len) = record {
-    Value = Unit {0};
-    values = noNumber;
-    inside = resizeIn e N P R r len;
-    behind = afterCheck (poolAt e S) (withBlob r (resizeOn e N P R len));
-    is = unfold resizeCall in says-resize e S r len;
-    roots = inr (r, unfold named in refl, unfold resizeIn changing in refl);
-    faults = λ q f. unfold walked in check-refused (poolAt e S) _ q f;
-    rest = λ q o roots h. changing-rest (resize r len) r (resizeOn e N P R len) (unfold named in refl) (unfold walked in refl) q
-        (λ b m w. unfold resizeOn refuseFull in
-        by-worn e S _ b (Table e S (resize r len) q) w
-        (λ worn k. refusal-12-resize r len b refl m worn k)
-        (λ young w. by-if (ltb (length (freeAt e S)) (newAt e S len b)) 11 _ (Table e S (resize r len) q) w
-        (λ t k. refusal-11-resize r len b refl m young (ltb-true (length (freeAt e S)) (newAt e S len b) t) k) (λ t z. done-refused z))) o roots h;
-  }
-  chain (tellLength r) = record {
-    Value = ℕ;
-    values = oneNumber;
-    inside = lengthIn e N P R r;
-    behind = afterCheck (blobAt e S r) (lengthOn e N P R);
-    is = unfold lengthCall in says-length e S r;
-    roots = inr (r, unfold named in refl, unfold lengthIn reading in refl);
-    faults = λ q f. unfold walked in check-refused (blobAt e S r) _ q (one-fault (blobAt e S r) q f);
-    rest = λ q o roots h. reading-rest (tellLength r) r (lengthOn e N P R) (unfold named in refl) (unfold walked in refl) q
-        (λ b m w. unfold lengthOn in done-refused w) o roots h;
-  }
-  chain (read r offset size) = record {
-    Value = List ℕ;
-    values = allBytes;
-    inside = readIn e N P R r offset size;
-    behind = afterCheck (blobAt e S r) (readOn e N P R offset size);
-    is = unfold readCall in says-read e S r offset size;
-    roots = inr (r, unfold named in refl, unfold readIn reading in refl);
-    faults = λ q f. unfold walked in check-refused (blobAt e S r) _ q (one-fault (blobAt e S r) q f);
-    rest = λ q o roots h. reading-rest (read r offset size) r (readOn e N P R offset size) (unfold named in refl) (unfold walked in refl) q
-        (λ b m w. unfold readOn refusePast in
-        by-if (ltb (lengthOf b) (offset + size)) 10 _ (Table e S (read r offset size) q) w
-        (λ t k. refusal-10-read r offset size b refl m (ltb-true (lengthOf b) (offset + size) t) k) (λ t z. done-refused z)) o roots h;
-  }
-  chain (showLeaf r i) = record {
-    Value = ℕ × ℕ;
-    values = leafShown e P;
-    inside = showIn e N P R r i;
-    behind = afterCheck (blobAt e S r) (showOn e N P R i);
-    is = unfold showCall in says-show e S r i;
-    roots = inr (r, unfold named in refl, unfold showIn reading in refl);
-    faults = λ q f. unfold walked in check-refused (blobAt e S r) _ q (one-fault (blobAt e S r) q f);
-    rest = λ q o roots h. reading-rest (showLeaf r i) r (showOn e N P R i) (unfold named in refl) (unfold walked in refl) q
-        (λ b m w. unfold showOn in
-        by-if (leb (length (leavesOf b)) i) 10 _ (Table e S (showLeaf r i) q) w
-        (λ t k. refusal-10-show r i b refl m (leb-true (length (leavesOf b)) i t) k) (λ t z. done-refused z)) o roots h;
-  }
+  -- 10 of read
+  read-past : (r offset size : ℕ) (b : Blob) → Met e S (read r offset size) r b → lengthOf b < offset + size
+      → says e S (read r offset size) ≡ refuses (nowhere 10)
+  unfolding readCall readIn
+  read-past r offset size b m h =
+      says-read e S r offset size ∙ refused-said allBytes _ (nowhere 10) (reads e p S r b (m .finds) (readOn e N P R offset size)
+      ∙ unfold readOn refusePast in if-refused _ 10 _ (lt-ltb (lengthOf b) (offset + size) h))
+
+  -- 10 of show
+  show-past : (r k : ℕ) (b : Blob) → Met e S (showLeaf r k) r b → length (leavesOf b) ≤ k → says e S (showLeaf r k) ≡ refuses (nowhere 10)
+  unfolding showCall showIn
+  show-past r k b m h =
+      says-show e S r k ∙ refused-said (leafShown e P) _ (nowhere 10) (reads e p S r b (m .finds) (showOn e N P R k)
+      ∙ unfold showOn in if-refused _ 10 _ (le-leb (length (leavesOf b)) k h))
+
+  -- 11 of resize
+  resize-full : (r len : ℕ) (b : Blob) → Met e S (resize r len) r b → (Worn S b → ⊥) → length (freeAt e S) < newAt e S len b
+      → says e S (resize r len) ≡ refuses (nowhere 11)
+  unfolding resizeCall resizeIn walked
+  resize-full r len b m young h =
+      says-resize e S r len ∙ refused-said noNumber _ (nowhere 11) (changing-met e p S (resize r len) r b (resizeOn e N P R len) refl m
+      ∙ unfold resizeOn refuseFull in worn-passed e S _ b young ∙ if-refused _ 11 _ (lt-ltb (length (freeAt e S)) (newAt e S len b) h))
+
+  -- 11 of create
+  create-full : (bs : List Blob) (seen : List ℕ) → Opened e S → poolAt e S ≡ fine bs seen → length (freeAt e S) < 1
+      → says e S create ≡ refuses (nowhere 11)
+  unfolding createCall createIn createOn refuseFull
+  create-full bs seen o f h =
+      says-create e S ∙ refused-said oneNumber _ (nowhere 11) (opened-passed e S _ o ∙ check-passed (poolAt e S) (createOn e N P R) bs seen f
+      ∙ if-refused _ 11 _ (lt-ltb (length (freeAt e S)) 1 h))
+
+  -- a refusal of another call
+  other-call : (c : Call) (x : Call) (q t : Refusal) → c ≡ x → q ≡ t → says e S x ≡ refuses t → says e S c ≡ refuses q
+  other-call c x q t k l h = rw (k, l) h
+
+  -- one of the table holds: the call is refused so
+  table-says : (c : Call) (q : Refusal) → Table e S c q → says e S c ≡ refuses q
+  table-says c q (refusal-1 h k) = chain-1 e S c (chain e p S c) q h k
+  table-says c q (refusal-2 s h low bad f k) = chain-2 e S c (chain e p S c) q s h low bad f k
+  table-says c q (refusal-3 r o one bad k) = chain-3 e S c (chain e p S c) q r o one bad k
+  table-says c q (refusals-4-to-9 o roots f) = chain-walk e S c (chain e p S c) q o roots f
+  table-says c q (refusal-12-write r offset d b k m worn l) = other-call c _ q _ k l (write-worn r offset d b (subst (λ c. Met e S c r b) k m) worn)
+  table-says c q (refusal-12-resize r len b k m worn l) = other-call c _ q _ k l (resize-worn r len b (subst (λ c. Met e S c r b) k m) worn)
+  table-says c q (refusal-10-write r offset d b k m y h l) = other-call c _ q _ k l (write-past r offset d b (subst (λ c. Met e S c r b) k m) y h)
+  table-says c q (refusal-10-read r offset size b k m h l) = other-call c _ q _ k l (read-past r offset size b (subst (λ c. Met e S c r b) k m) h)
+  table-says c q (refusal-10-show r i b k m h l) = other-call c _ q _ k l (show-past r i b (subst (λ c. Met e S c r b) k m) h)
+  table-says c q (refusal-11-resize r len b k m y h l) = other-call c _ q _ k l (resize-full r len b (subst (λ c. Met e S c r b) k m) y h)
+  table-says c q (refusal-11-create bs seen k o f h l) = other-call c _ q _ k l (create-full bs seen o f h)
+
+  -- a walk's refusals
+  walk-numbered : (c : Call) (q : Refusal) → walked e S c ≡ fault q → OfWalk q
+  unfolding walked
+  walk-numbered create q h = pool-numbered e N P R q h
+  walk-numbered audit q h = pool-numbered e N P R q h
+  walk-numbered (write r offset d) q h = pool-numbered e N P R q h
+  walk-numbered (resize r len) q h = pool-numbered e N P R q h
+  walk-numbered (delete r) q h = pool-numbered e N P R q h
+  walk-numbered (tellLength r) q h = blob-numbered e N P R r q (one-fault (blobAt e S r) q h)
+  walk-numbered (read r offset size) q h = blob-numbered e N P R r q (one-fault (blobAt e S r) q h)
+  walk-numbered (showLeaf r k) q h = blob-numbered e N P R r q (one-fault (blobAt e S r) q h)
+
+  -- a number of the table
+  abbrev Listed : Refusal → Type 0
+  Listed q = (1 ≤ q .number) × (q .number ≤ 12)
+
+  -- one that names no slot
+  nowhere-listed : (n : ℕ) (q : Refusal) → 1 ≤ n → n ≤ 12 → q ≡ nowhere n → Listed q
+  unfolding nowhere refusalOf
+  nowhere-listed n q lo hi k = rw k (lo, hi)
+
+  -- 2
+  at-listed : (s : ℕ) (q : Refusal) → q ≡ at 2 s → Listed q
+  unfolding at refusalOf
+  at-listed s q k = rw k (omega arith, omega arith)
+
+  -- every refusal of the table has one
+  table-listed : (c : Call) (q : Refusal) → Table e S c q → Listed q
+  table-listed c q (refusal-1 h k) = nowhere-listed 1 q (omega arith) (omega arith) k
+  table-listed c q (refusal-2 s h low bad f k) = at-listed s q k
+  table-listed c q (refusal-3 r o one bad k) = nowhere-listed 3 q (omega arith) (omega arith) k
+  table-listed c q (refusals-4-to-9 o roots f) = let (lo, hi, s) = walk-numbered c q f in (omega arith, omega arith)
+  table-listed c q (refusal-12-write r offset d b k m worn l) = nowhere-listed 12 q (omega arith) (omega arith) l
+  table-listed c q (refusal-12-resize r len b k m worn l) = nowhere-listed 12 q (omega arith) (omega arith) l
+  table-listed c q (refusal-10-write r offset d b k m y h l) = nowhere-listed 10 q (omega arith) (omega arith) l
+  table-listed c q (refusal-10-read r offset size b k m h l) = nowhere-listed 10 q (omega arith) (omega arith) l
+  table-listed c q (refusal-10-show r i b k m h l) = nowhere-listed 10 q (omega arith) (omega arith) l
+  table-listed c q (refusal-11-resize r len b k m y h l) = nowhere-listed 11 q (omega arith) (omega arith) l
+  table-listed c q (refusal-11-create bs seen k o f h l) = nowhere-listed 11 q (omega arith) (omega arith) l
+
+  -- how a call ends: with its result, or with a listed refusal
+  abbrev Ended : Call → Type 0
+  Ended c = ((vs : List ℕ) × (says e S c ≡ yields vs)) ⊎ ((q : Refusal) × (says e S c ≡ refuses q) × (1 ≤ q .number) × (q .number ≤ 12))
+
+  -- so it ends
+  call-ends : (c : Call) → Ended c
+  call-ends c = go (says e S c) refl
+    where
+      go : (x : Said) → says e S c ≡ x → Ended c
+      go (yields vs) h = inl (vs, h)
+      go (refuses q) h = let l = table-listed c q (chain-table e S c (chain e p S c) q h) in inr (q, h, l .0, l .1)
+
+  -- a refused outcome leaves the store
+  refused-after : {A : Type 0} (values : A → List ℕ) (o : Outcome A) (q : Refusal) → saidBy values o ≡ refuses q → after e S o ≡ S
+  unfolding after
+  refused-after values o q h = rw (said-refused values o q h)
+
+  -- and so does a refused call
+  call-untouched : (c : Call) (q : Refusal) → says e S c ≡ refuses q → perform e S c ≡ S
+  unfolding perform
+  call-untouched create q h = refused-after _ (createCall e P R) q (sym (says-create e S) ∙ h)
+  call-untouched audit q h = refused-after _ (auditCall e P R) q (sym (says-audit e S) ∙ h)
+  call-untouched (write r offset d) q h = refused-after _ (writeCall e P R r offset d) q (sym (says-write e S r offset d) ∙ h)
+  call-untouched (resize r len) q h = refused-after _ (resizeCall e P R r len) q (sym (says-resize e S r len) ∙ h)
+  call-untouched (delete r) q h = refused-after _ (deleteCall e P R r) q (sym (says-delete e S r) ∙ h)
+  call-untouched (tellLength r) q h = refused-after _ (lengthCall e P R r) q (sym (says-length e S r) ∙ h)
+  call-untouched (read r offset size) q h = refused-after _ (readCall e P R r offset size) q (sym (says-read e S r offset size) ∙ h)
+  call-untouched (showLeaf r k) q h = refused-after _ (showCall e P R r k) q (sym (says-show e S r k) ∙ h)
+
+  -- nor does a refused read fill any byte
+  read-unfilled : (r offset size : ℕ) (q : Refusal) → says e S (read r offset size) ≡ refuses q → (x : Finished) (out out′ : List ℕ)
+      → Reads (readCall e P R r offset size) x out out′ → out′ ≡ out
+  unfolding readOut
+  read-unfilled r offset size q h x out out′ a =
+      a .output ∙ ap (λ o. readOut o out) (said-refused allBytes (readCall e P R r offset size) q (sym (says-read e S r offset size) ∙ h))
+
+  -- wipe
+  wipe-exactly : (q : Refusal) → (finishedSaid (wipeAnswer e P R) ≡ refuses q) ↔ ((sized e P R ≡ false) × (q ≡ nowhere 1))
+  unfolding wipeAnswer finishedSaid pick
+  wipe-exactly q = (go (sized e P R), λ (t, k). rw (t, k))
+    where
+      go : (t : Bool) → finishedSaid (pick t finishedCase.Done (finishedCase.Refused (nowhere 1))) ≡ refuses q → (t ≡ false) × (q ≡ nowhere 1)
+      go true h = let z : _≡_ {A = ℕ} 0 1 = cc in absurd (omega arith)
+      go false h = let k : q ≡ nowhere 1 = cc in (refl, k)
+
+  -- what it leaves: zeros, and free records at version 0
+  wipe-leaves : sized e P R ≡ true
+      → (afterWipe e S .pool ≡ replicate (length P) 0) × (length (afterWipe e S .records) ≡ length R)
+      × ((s : ℕ) → s < N → recordAt (afterWipe e S .records) s ≡ recordOf 0 0)
+  unfolding wiped
+  wipe-leaves h =
+      let l = sized-lengths e P R h in
+      let q = wipe-starts e S h in (
+        ap (λ (T : Store). T .pool) q ∙ ap (λ (n : ℕ). replicate {A = ℕ} n 0) (sym (l .whole)),
+        ap (λ (T : Store). length (T .records)) q ∙ free-length N ∙ sym (l .lines),
+        (λ s low. ap (λ (T : Store). recordAt (T .records) s) q ∙ free-record N s low),
+      )
+
+  -- refused, the store as it was
+  wipe-untouched : sized e P R ≡ false → afterWipe e S ≡ S
+  unfolding afterWipe pick
+  wipe-untouched h = rw h
+
+-- demand one
+pub one : (e : Edition) → Proper e → DemandOne e
+one e p = record {
+  ends = call-ends e p;
+  exactly = λ S c q. (chain-table e S c (chain e p S c) q, table-says e p S c q);
+  walks = walk-numbered e p;
+  untouched = call-untouched e p;
+  unfilled = read-unfilled e p;
+  wipe = wipe-exactly e p;
+  wiping = wipe-leaves e p;
+  unwiped = wipe-untouched e p;
+  one-end = λ say o P R x y P′ R′ P″ R″ a b. (a .answer ∙ sym (b .answer), a .pool ∙ sym (b .pool), a .records ∙ sym (b .records));
+  one-wipe = λ P R x y P′ R′ P″ R″ a b. (a .answer ∙ sym (b .answer), a .pool ∙ sym (b .pool), a .records ∙ sym (b .records));
+  one-read = λ o x y out out′ out″ a b. (a .answer ∙ sym (b .answer), a .output ∙ sym (b .output));
+  one-answer = (length-said-same, audit-said-same, created-said-same, changed-said-same, finished-said-same, leaf-said-same);
+}
