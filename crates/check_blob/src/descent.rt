@@ -89,8 +89,10 @@ fn visit_block(
                 return Walked::Fine(bytes + count as u64, leaves + 1);
             }
             let w = h - 1;
+            // A copy of its own for the row: the compiler then makes one for inner blocks only, and none for a leaf.
+            let below = e;
             visit_row(
-                e,
+                below,
                 pool,
                 records,
                 seen,

@@ -1,4 +1,4 @@
--- The walk from one root: what it notes is the block visit's note of the root, with no byte and no leaf so far.
+-- The walk from one root: what it notes is what the visit of the root notes, with no byte and no leaf so far.
 use mathlib.Core.Path.{_≡_, refl, _∙_}
 use mathlib.Core.Bool.{true}
 use mathlib.Core.List.{List}

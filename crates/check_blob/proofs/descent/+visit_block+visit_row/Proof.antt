@@ -132,20 +132,6 @@ visit-block-note-leaf-requires : (t : ℕ) → visit-block-lts.Need-note-leaf-re
 ) (visit-block-at t) visit-block.Post
 visit-block-note-leaf-requires t c κs = search slot-small
 
-visit-block-add-t26 : (t : ℕ) → visit-block-lts.Need-add-t26 (
-  visit-reads.Asked,
-  visit-reads.Learnt,
-  block-of-reads.Asked,
-  block-of-reads.Learnt,
-  count-of-reads.Asked,
-  count-of-reads.Learnt,
-  note-leaf-reads.Asked,
-  note-leaf-reads.Learnt,
-  visit-row-below t,
-  visit-row.Post,
-) (visit-block-at t) visit-block.Post
-visit-block-add-t26 t c = search bytes-fit
-
 visit-block-add-t27 : (t : ℕ) → visit-block-lts.Need-add-t27 (
   visit-reads.Asked,
   visit-reads.Learnt,
@@ -158,7 +144,21 @@ visit-block-add-t27 : (t : ℕ) → visit-block-lts.Need-add-t27 (
   visit-row-below t,
   visit-row.Post,
 ) (visit-block-at t) visit-block.Post
-visit-block-add-t27 t c = search leaves-fit
+visit-block-add-t27 t c = search bytes-fit
+
+visit-block-add-t28 : (t : ℕ) → visit-block-lts.Need-add-t28 (
+  visit-reads.Asked,
+  visit-reads.Learnt,
+  block-of-reads.Asked,
+  block-of-reads.Learnt,
+  count-of-reads.Asked,
+  count-of-reads.Learnt,
+  note-leaf-reads.Asked,
+  note-leaf-reads.Learnt,
+  visit-row-below t,
+  visit-row.Post,
+) (visit-block-at t) visit-block.Post
+visit-block-add-t28 t c = search leaves-fit
 
 visit-block-same-length : (t : ℕ) → visit-block-lts.Need-same-length (
   visit-reads.Asked,
@@ -496,8 +496,8 @@ pub +visit-block+visit-row-spec : {M : Type 1} → statement M
     (visit-block-block-of-requires t)
     (visit-block-count-of-requires t)
     (visit-block-note-leaf-requires t)
-    (visit-block-add-t26 t)
     (visit-block-add-t27 t)
+    (visit-block-add-t28 t)
     (visit-block-same-length t)
     (visit-block-same-length-2 t)
     (visit-block-returns t)
