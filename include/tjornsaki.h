@@ -11,8 +11,9 @@
  *   - pool, records, out and answer do not overlap, and neither does data with pool, records or answer,
  *   - no other thread touches them during the call.
  * A function keeps no pointer and nothing else between calls, takes no memory from the heap, and calls nothing but C's memset and memcpy.
- * It needs at most TJ_STACK bytes of stack, whatever comes in: its own rows have a place for each of 1,024 slots, ten bytes a slot in write,
- * resize and delete, five in length, read and show, one in create and audit. tests/c/stack.c measures it.
+ * It needs at most TJ_STACK bytes of stack: its own rows have a place for each of 1,024 slots, ten bytes a slot in write, resize and delete, five
+ * in length, read and show, one in create and audit; and the walk is never deeper than four blocks. tests/c/stack.c measures each call on a pool
+ * that one blob fills.
  *
  * Every function leaves eight numbers in answer, whatever was there before:
  *   answer[TJ_REFUSAL]      the number of the refusal, 0 if the call was done

@@ -18,7 +18,7 @@ valueNumbers first second = 0 ∷ slotNumber Nowhere ∷ first ∷ second ∷ 0 
 unfoldable pub refusalNumbers : Refusal → List ℕ
 refusalNumbers r = r .number ∷ slotNumber (r .named) ∷ 0 ∷ 0 ∷ 0 ∷ 0 ∷ 0 ∷ 0 ∷ []
 
--- a call says at most two values
+-- an answer says at most two values
 unfoldable pub numbers : Said → List ℕ
 numbers (refuses r) = refusalNumbers r
 numbers (yields []) = valueNumbers 0 0

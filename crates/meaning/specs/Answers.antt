@@ -1,4 +1,4 @@
--- Each call's answer as the value that the code gives, and what this paper's number and values of it are.
+-- Each call's answer as the value that the code gives, and what document 01's number and values of it are.
 use mathlib.Core.Path.{_≡_}
 use mathlib.Core.List.{List, [], _∷_, _++_}
 use Prim.Native.Nat.{ℕ, _+_, _*_}
@@ -43,6 +43,11 @@ unfoldable pub finishAnswer : {A : Type 0} → Outcome A → Finished
 finishAnswer (refused r) = finishedCase.Refused r
 finishAnswer (done v cs) = finishedCase.Done
 
+-- the lent output after a read: filled whole, or untouched
+unfoldable pub readOut : Outcome (List ℕ) → List ℕ → List ℕ
+readOut (refused r) out = out
+readOut (done d cs) out = d
+
 -- wipe checks 1 only; what it leaves is afterWipe (Calls)
 unfoldable pub wipeAnswer : Edition → (P R : List ℕ) → Finished
 wipeAnswer e P R = pick (sized e P R) finishedCase.Done (finishedCase.Refused (nowhere 1))
@@ -51,11 +56,6 @@ wipeAnswer e P R = pick (sized e P R) finishedCase.Done (finishedCase.Refused (n
 unfoldable pub leafAnswer : Edition → Outcome (ℕ × ℕ) → Leaf
 leafAnswer e (refused r) = leafCase.Refused r
 leafAnswer e (done v cs) = leafCase.At (e .size * v .0 + 16) (v .1)
-
--- the lent output after a read: filled whole, or untouched
-unfoldable pub readOut : Outcome (List ℕ) → List ℕ → List ℕ
-readOut (refused r) out = out
-readOut (done d cs) out = d
 
 -- where in the pool show's part starts: at the leaf's data bytes; the empty part of a refusal at the pool's first byte
 unfoldable pub shownAt : Edition → Outcome (ℕ × ℕ) → ℕ
@@ -93,7 +93,7 @@ pub record Reads (o : Outcome (List ℕ)) (x : Finished) (out out′ : List ℕ)
   pub answer : x ≡ finishAnswer o
   pub output : out′ ≡ readOut o out
 
--- what an answer says in this paper's terms: the values of a call that is done, or the number and the named slot of a refusal
+-- what an answer says in document 01's terms: the values of a call that is done, or the number and the named slot of a refusal
 pub data Said : Type 0 where
   yields : List ℕ → Said
   refuses : Refusal → Said

@@ -141,8 +141,8 @@ unfoldable pub worked : List Case
 worked =
     script 17
     (record { call = create; answer = 0 ∷ []; facts = leaf 0 2 1 [] ∷ [] }
-    -- 576 bytes are 12 leaves. One leaf there is, slot 0, and 1 = 12^0 at its height 0. So for the second leaf slot 1 takes what the root holds, and the
-    -- root becomes height 1 with the one child 1. Each further leaf takes the lowest free slot and hangs at the root.
+    -- 576 bytes are 12 leaves. One leaf there is, slot 0, which first fills to 48 bytes; and 1 = 12^0 at its height 0. So for the second leaf slot 1
+    -- takes what the root holds, and the root becomes height 1 with the one child 1. Each further leaf takes the lowest free slot and hangs at the root.
     ∷ record {
       call = resize 0 576;
       answer = [];
@@ -188,7 +188,7 @@ worked =
 unfoldable pub empty : (version : ℕ) → List ℕ
 empty version = encoded one (record { height = 0; items = [] }) 0 version
 
--- two slots, the blob of an empty leaf in the first
+-- two slots, each with its block and its record
 unfoldable pub two : (b line b′ line′ : List ℕ) → Store
 two b line b′ line′ = record { pool = b ++ b′; records = line ++ line′ }
 

@@ -1,5 +1,5 @@
 -- What resize and write make of a blob, in the words of document 01 and in their order. Quoted words are the paper's, for any leaf and fan-out.
--- Cases.antt works one resize out, slot by slot.
+-- The list `worked` in Cases.antt works one resize out, slot by slot.
 use mathlib.Core.Bool.{Bool, true, false}
 use mathlib.Core.List.{List, [], _∷_, _++_}
 use Prim.Native.Nat.{ℕ, zero, suc, _+_, _-_, _*_, _^_, min}
@@ -12,7 +12,7 @@ use Rattle.meaning.specs.Tree.{Tree, Blob, slotOf, atSlot, leaves, conte
 
 -- RESIZE, LONGER: "the last leaf fills with zeros, then leaves are added one by one". The paper's height d is h here; d is what a leaf holds.
 
--- how many bytes of len the i-th leaf holds; and each of k leaves from the i-th on
+-- how many bytes of len the i-th leaf holds, counted from 0; and each of k leaves from the i-th on
 unfoldable pub share : Edition → (len i : ℕ) → ℕ
 share e len i = min (e .leaf) (len - e .leaf * i)
 
@@ -55,7 +55,7 @@ chain (suc h) d free =
     let below = chain h d (drop 1 free) in
     record { made = (lowest free, below .made ∷ []); free = below .free }
 
--- a row of trees, the last of which grows as f says
+-- a row of trees, the last of which grows as f says; of an empty row nothing grows, and the free slots stay
 unfoldable pub onLast : {A : Type 0} → (A → Grown A) → List A → (free : List ℕ) → Grown (List A)
 onLast f [] free = record { made = []; free = free }
 onLast f (x ∷ []) free = let last = f x in record { made = last .made ∷ []; free = last .free }

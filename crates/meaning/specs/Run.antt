@@ -53,7 +53,7 @@ unfoldable pub moments : Edition → Store → List Call → List Store
 moments e S [] = S ∷ []
 moments e S (c ∷ cs) = S ∷ moments e (perform e S c) cs
 
--- a run starts with a wipe of a store of good lengths
+-- a run starts with a wipe; the demands ask that the store wiped has good lengths
 unfoldable pub run : Edition → Store → List Call → List Store
 run e S calls = moments e (afterWipe e S) calls
 

@@ -1,4 +1,4 @@
-// What a changing call stores of one slot: its block, then its record. Nothing else writes to pool or records, wipe apart.
+// What a changing call stores of one slot: its block, then its record. Nothing else writes to pool or records, wipe and write apart.
 use base_block::build;
 use base_bytes::runs;
 use base_slot::record;
