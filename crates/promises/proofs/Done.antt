@@ -249,8 +249,8 @@ module _ (e : Edition) (p : Proper e) (S : Store) where
       let i = done-same (c .then) in
       let one = pool-one e N P R (m .before ++ (m .blob ∷ m .after)) (g .before ++ (g .blob ∷ g .after)) (m .was) (g .was) in
       let same : m .blob ≡ g .blob =
-      same-blob (sym (blob-met r (λ b. done b []) (m .before) (m .blob) (m .after) (among-others e N P R r (c .blobs) m .0) (m .at))
-      ∙ ap (withBlob r (λ b. done b [])) one ∙ blob-met r (λ b. done b []) (g .before) (g .blob) (g .after) (g .others .0) (g .at)) in
+      done-same (sym (blob-met r (λ b. done b []) (m .before) (m .blob) (m .after) (among-others e N P R r (c .blobs) m .0) (m .at))
+      ∙ ap (withBlob r (λ b. done b [])) one ∙ blob-met r (λ b. done b []) (g .before) (g .blob) (g .after) (g .others .0) (g .at)) .0 in
       let next : perform e S (delete r) ≡ changedBy e (become e N P R 1 (cellsOf (g .blob)) []) S =
       done-after (deleteCall e P R r) a cs q ∙ ap (λ (cs : List Change). changedBy e cs S)
       (sym (i .1) ∙ ap (λ (b : Blob). become e N P R 1 (cellsOf b) []) same) in
@@ -268,6 +268,3 @@ module _ (e : Edition) (p : Proper e) (S : Store) where
         },
         freed-again (perform e S (delete r)) (g .blob) [] [] (λ x k. times-none x) l lay next,
       )
-    where
-      same-blob : {b b′ : Blob} → done b [] ≡ done b′ [] → b ≡ b′
-      same-blob h = cc

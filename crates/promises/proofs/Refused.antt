@@ -13,19 +13,16 @@ use Rattle.meaning.specs.Bytes.{recordAt, state, recorded, soundRecord, lastVer
 use Rattle.meaning.specs.Tree.{Blob, slotsOf}
 use Rattle.meaning.specs.Refusals.{at, nowhere}
 use Rattle.meaning.specs.Walk.{Found, fault, fine}
-use Rattle.meaning.specs.Change.{Change, Store}
-use Rattle.meaning.specs.Calls.{Outcome, refused, done, refuseIf, afterCheck, refuseBadRecord, sized, opened, rooted, refuseWorn}
+use Rattle.meaning.specs.Change.{Store}
+use Rattle.meaning.specs.Calls.{Outcome, refused, refuseIf, afterCheck, refuseBadRecord, sized, opened, rooted, refuseWorn}
 use Rattle.laws.proofs.Inversions.{by-test, both-true, true-both, never}
+use Rattle.laws_history.proofs.Answered.{rooted-passes}
 use Rattle.laws_sound.proofs.again.Outcomes.{opens-passes}
 use Rattle.promises.specs.Demands.{slotsAt, IsRoot, Opened, Worn}
 
 -- one refused outcome is one refusal
 pub refused-same : {A : Type 0} {r q : Refusal} → _≡_ {A = Outcome A} (refused r) (refused q) → r ≡ q
 refused-same h = cc
-
--- what is done is not refused
-pub done-refused : {A B : Type 0} {a : A} {cs : List Change} {q : Refusal} → done a cs ≡ refused q → B
-done-refused h = let z : _≡_ {A = ℕ} 0 1 = cc in absurd (omega arith)
 
 -- a refusal, or what is behind it
 pub by-if : {A : Type 0} (t : Bool) (n : ℕ) (o : Outcome A) {q : Refusal} (Q : Type 0) → refuseIf t n o ≡ refused q → (t ≡ true → q ≡ nowhere n → Q)
@@ -123,35 +120,37 @@ module _ {A : Type 0} (e : Edition) (S : Store) (o : Outcome A) where
   pub opened-passed : Opened e S → opened e (S .pool) (S .records) o ≡ o
   opened-passed g = opens-passes e (S .pool) (S .records) o (record { sized = g .lengths; sound = g .layout })
 
+  -- the test of refusal 3
+  abbrev rootTest : ℕ → Bool
+  rootTest r = both (ltb r (slotsAt e S)) (eqb (state (S .records) r) 2)
+
+  -- holds of a root only
+  tested-root : (r : ℕ) → rootTest r ≡ true → IsRoot e S r
+  tested-root r t =
+      let k = both-true (ltb r (slotsAt e S)) (eqb (state (S .records) r) 2) t in
+      (ltb-true r (slotsAt e S) (k .0), eqb-true (state (S .records) r) 2 (k .1))
+
   -- refusal 3
   pub by-rooted : (r : ℕ) {q : Refusal} (Q : Type 0) → rooted e (slotsAt e S) (S .pool) (S .records) r o ≡ refused q
       → ((IsRoot e S r → ⊥) → q ≡ nowhere 3 → Q) → (IsRoot e S r → o ≡ refused q → Q) → Q
   unfolding rooted
   by-rooted r Q h x y =
-      let t = both (ltb r (slotsAt e S)) (eqb (state (S .records) r) 2) in
-      by-if (not t) 3 o Q h
-      (λ b. x (λ is. never (sym (root-test r is) ∙ not-true t b)))
-      (λ b. let k = both-true (ltb r (slotsAt e S)) (eqb (state (S .records) r) 2) (not-false t b) in
-      y (ltb-true r (slotsAt e S) (k .0), eqb-true (state (S .records) r) 2 (k .1)))
+      by-if (not (rootTest r)) 3 o Q h
+      (λ b. x (λ is. never (sym (root-tested is) ∙ not-true (rootTest r) b)))
+      (λ b. y (tested-root r (not-false (rootTest r) b)))
     where
-      root-test : (r : ℕ) → IsRoot e S r → both (ltb r (slotsAt e S)) (eqb (state (S .records) r) 2) ≡ true
-      root-test r is = true-both (ltb r (slotsAt e S)) _ (lt-ltb r (slotsAt e S) (is .0)) (eq-eqb (state (S .records) r) 2 (is .1))
+      root-tested : IsRoot e S r → rootTest r ≡ true
+      root-tested is = true-both (ltb r (slotsAt e S)) _ (lt-ltb r (slotsAt e S) (is .0)) (eq-eqb (state (S .records) r) 2 (is .1))
 
   -- it is made
   pub root-refused : (r : ℕ) → (IsRoot e S r → ⊥) → rooted e (slotsAt e S) (S .pool) (S .records) r o ≡ refused (nowhere 3)
   unfolding rooted
   root-refused r no-root =
-      let t = both (ltb r (slotsAt e S)) (eqb (state (S .records) r) 2) in
-      by-test t
-      (λ b. let k = both-true (ltb r (slotsAt e S)) (eqb (state (S .records) r) 2) b in
-      absurd (no-root (ltb-true r (slotsAt e S) (k .0), eqb-true (state (S .records) r) 2 (k .1))))
-      (λ b. if-refused (not t) 3 o (ap not b))
+      by-test (rootTest r) (λ t. absurd (no-root (tested-root r t))) (λ t. if-refused (not (rootTest r)) 3 o (ap not t))
 
   -- it is not made
   pub root-passed : (r : ℕ) → IsRoot e S r → rooted e (slotsAt e S) (S .pool) (S .records) r o ≡ o
-  unfolding rooted
-  root-passed r is =
-      if-passed _ 3 o (ap not (true-both (ltb r (slotsAt e S)) _ (lt-ltb r (slotsAt e S) (is .0)) (eq-eqb (state (S .records) r) 2 (is .1))))
+  root-passed r is = rooted-passes e (slotsAt e S) (S .pool) (S .records) r (is .0) (is .1) o
 
   -- refusal 12
   abbrev youngs : List ℕ → Bool

@@ -23,13 +23,13 @@ use Rattle.meaning.specs.Calls.{lengthOn, lengthIn, readOn, readIn, showOn, sho
 use Rattle.meaning.specs.Calls.{deleteOn, deleteIn, lengthCall, readCall, showCall, auditCall, createCall, writeCall, resizeCall, deleteCall}
 use Rattle.meaning.specs.Answers.{refuses}
 use Rattle.meaning.specs.Run.{Call, create, audit, write, resize, delete, tellLength, read, showLeaf, says}
-use Rattle.laws.proofs.Inversions.{fine-same}
+use Rattle.laws.proofs.Inversions.{fine-same, fine-andThen}
 use Rattle.laws_sound.proofs.sound.Pools.{pool-found}
-use Rattle.laws_sound.proofs.again.Outcomes.{sized-lengths, blob-among, among-met, among-walk}
+use Rattle.laws_sound.proofs.again.Outcomes.{refused-done, sized-lengths, blob-among, among-met, among-walk}
 use Rattle.promises.proofs.Said.{saidBy, oneNumber, noNumber, allBytes, leafShown, said-refused, refused-said}
 use Rattle.promises.proofs.Said.{says-create, says-audit, says-write, says-resize, says-delete, says-length, says-read, says-show}
 use Rattle.promises.proofs.Faults.{by-then}
-use Rattle.promises.proofs.Refused.{done-refused, by-if, by-check, check-refused, check-passed}
+use Rattle.promises.proofs.Refused.{by-if, by-check, check-refused, check-passed}
 use Rattle.promises.proofs.Refused.{by-opened, lengths-refused, layout-refused, opened-passed, by-rooted, root-refused, root-passed}
 use Rattle.promises.proofs.Refused.{by-worn}
 use Rattle.promises.specs.Demands.{slotsAt, blobAt, poolAt, freeAt, newAt, named, walked, IsRoot, Opened, Met}
@@ -88,24 +88,20 @@ module _ (e : Edition) (S : Store) (c : Call) (x : Chain e S c) where
 
   -- refusal 3
   pub chain-3 : (q : Refusal) (r : ℕ) → Opened e S → named c ≡ r ∷ [] → (IsRoot e S r → ⊥) → q ≡ nowhere 3 → says e S c ≡ refuses q
-  chain-3 q r o one bad k = refused-by q (opened-passed e S (x .inside) o ∙ go (x .roots) ∙ ap refused (sym k))
-    where
-      go : ((named c ≡ []) × (x .inside ≡ x .behind))
-          ⊎ ((s : ℕ) × (named c ≡ s ∷ []) × (x .inside ≡ rooted e (slotsAt e S) (S .pool) (S .records) s (x .behind)))
-          → x .inside ≡ refused (nowhere 3)
-      go (inl (none, same)) = no-root (sym none ∙ one)
-      go (inr (s, is, same)) =
-          same ∙ root-refused e S (x .behind) s (λ root. bad (subst (IsRoot e S) (one-root (sym is ∙ one)) root))
+  chain-3 q r o one bad k =
+      let third : x .inside ≡ refused (nowhere 3) =
+      ⊎-elim
+      (λ (none, same). no-root (sym none ∙ one))
+      (λ (s, is, same). same ∙ root-refused e S (x .behind) s (λ root. bad (subst (IsRoot e S) (one-root (sym is ∙ one)) root)))
+      (x .roots) in
+      refused-by q (opened-passed e S (x .inside) o ∙ third ∙ ap refused (sym k))
 
   -- refusals 4 to 9
   pub chain-walk : (q : Refusal) → Opened e S → ((r : ℕ) → named c ≡ r ∷ [] → IsRoot e S r) → walked e S c ≡ fault q → says e S c ≡ refuses q
-  chain-walk q o roots f = refused-by q (opened-passed e S (x .inside) o ∙ go (x .roots) ∙ x .faults q f)
-    where
-      go : ((named c ≡ []) × (x .inside ≡ x .behind))
-          ⊎ ((s : ℕ) × (named c ≡ s ∷ []) × (x .inside ≡ rooted e (slotsAt e S) (S .pool) (S .records) s (x .behind)))
-          → x .inside ≡ x .behind
-      go (inl (none, same)) = same
-      go (inr (s, is, same)) = same ∙ root-passed e S (x .behind) s (roots s is)
+  chain-walk q o roots f =
+      let passed : x .inside ≡ x .behind =
+      ⊎-elim (λ (none, same). same) (λ (s, is, same). same ∙ root-passed e S (x .behind) s (roots s is)) (x .roots) in
+      refused-by q (opened-passed e S (x .inside) o ∙ passed ∙ x .faults q f)
 
 -- a fault of a walk from one root
 pub one-fault : (f : Found Blob) (q : Refusal) → andThen f (λ b seen. fine (b ∷ []) seen) ≡ fault q → f ≡ fault q
@@ -115,11 +111,6 @@ one-fault f q h = by-then f _ (f ≡ fault q) h (λ x. x) (λ b seen o z. let n 
 fault-one : (f : Found Blob) (q : Refusal) → f ≡ fault q → andThen f (λ b seen. fine (b ∷ []) seen) ≡ fault q
 unfolding andThen
 fault-one f q h = rw h
-
--- one that went well
-fine-one : (f : Found Blob) (b : Blob) (seen : List ℕ) → f ≡ fine b seen → andThen f (λ b seen. fine (b ∷ []) seen) ≡ fine (b ∷ []) seen
-unfolding andThen
-fine-one f b seen h = rw h
 
 module _ (e : Edition) (p : Proper e) (S : Store) where
   abbrev N : ℕ
@@ -140,7 +131,7 @@ module _ (e : Edition) (p : Proper e) (S : Store) where
       by-check (blobAt e S r) k (Table e S c q) h
       (λ f. refusals-4-to-9 o roots (walk ∙ fault-one (blobAt e S r) q f))
       (λ b seen f. then b
-      (record { finds = (o, roots r one, (seen, f)); passes = (b ∷ [], seen, walk ∙ fine-one (blobAt e S r) b seen f) }))
+      (record { finds = (o, roots r one, (seen, f)); passes = (b ∷ [], seen, walk ∙ fine-andThen (blobAt e S r) _ b seen f) }))
 
   -- one that changes it
   changing-rest : {A : Type 0} (c : Call) (r : ℕ) (k : Blob → Outcome A) → named c ≡ r ∷ [] → walked e S c ≡ poolAt e S
@@ -182,7 +173,7 @@ module _ (e : Edition) (p : Proper e) (S : Store) where
         by-check (poolAt e S) (createOn e N P R) (Table e S create q) h
         (λ f. refusals-4-to-9 o roots f)
         (λ bs seen f w. by-if (ltb (length (freeAt e S)) 1) 11 _ (Table e S create q) w
-        (λ t k. refusal-11-create bs seen refl o f (ltb-true (length (freeAt e S)) 1 t) k) (λ t z. done-refused z));
+        (λ t k. refusal-11-create bs seen refl o f (ltb-true (length (freeAt e S)) 1 t) k) (λ t z. refused-done (sym z)));
   }
   chain audit = record {
     Value = ℕ;
@@ -193,7 +184,7 @@ module _ (e : Edition) (p : Proper e) (S : Store) where
     roots = inl (unfold named in refl, refl);
     faults = λ q f. unfold walked auditIn in check-refused (poolAt e S) (auditOn e N P R) q f;
     rest = λ q o roots h. unfold auditIn auditOn walked in
-        by-check (poolAt e S) (auditOn e N P R) (Table e S audit q) h (λ f. refusals-4-to-9 o roots f) (λ bs seen f w. done-refused w);
+        by-check (poolAt e S) (auditOn e N P R) (Table e S audit q) h (λ f. refusals-4-to-9 o roots f) (λ bs seen f w. refused-done (sym w));
   }
   chain (delete r) = record {
     Value = Unit {0};
@@ -204,7 +195,7 @@ module _ (e : Edition) (p : Proper e) (S : Store) where
     roots = inr (r, unfold named in refl, unfold deleteIn changing in refl);
     faults = λ q f. unfold walked in check-refused (poolAt e S) _ q f;
     rest = λ q o roots h. changing-rest (delete r) r (deleteOn e N P R) (unfold named in refl) (unfold walked in refl) q
-        (λ b m w. unfold deleteOn in done-refused w) o roots h;
+        (λ b m w. unfold deleteOn in refused-done (sym w)) o roots h;
   }
   chain (write r offset d) = record {
     Value = Unit {0};
@@ -219,7 +210,7 @@ module _ (e : Edition) (p : Proper e) (S : Store) where
         by-worn e S _ b (Table e S (write r offset d) q) w
         (λ worn k. refusal-12-write r offset d b refl m worn k)
         (λ young w. by-if (ltb (lengthOf b) (offset + length d)) 10 _ (Table e S (write r offset d) q) w
-        (λ t k. refusal-10-write r offset d b refl m young (ltb-true (lengthOf b) (offset + length d) t) k) (λ t z. done-refused z))) o roots h;
+        (λ t k. refusal-10-write r offset d b refl m young (ltb-true (lengthOf b) (offset + length d) t) k) (λ t z. refused-done (sym z)))) o roots h;
   }
   chain (resize r len) = record {
     Value = Unit {0};
@@ -234,7 +225,7 @@ module _ (e : Edition) (p : Proper e) (S : Store) where
         by-worn e S _ b (Table e S (resize r len) q) w
         (λ worn k. refusal-12-resize r len b refl m worn k)
         (λ young w. by-if (ltb (length (freeAt e S)) (newAt e S len b)) 11 _ (Table e S (resize r len) q) w
-        (λ t k. refusal-11-resize r len b refl m young (ltb-true (length (freeAt e S)) (newAt e S len b) t) k) (λ t z. done-refused z))) o roots h;
+        (λ t k. refusal-11-resize r len b refl m young (ltb-true (length (freeAt e S)) (newAt e S len b) t) k) (λ t z. refused-done (sym z)))) o roots h;
   }
   chain (tellLength r) = record {
     Value = ℕ;
@@ -245,7 +236,7 @@ module _ (e : Edition) (p : Proper e) (S : Store) where
     roots = inr (r, unfold named in refl, unfold lengthIn reading in refl);
     faults = λ q f. unfold walked in check-refused (blobAt e S r) _ q (one-fault (blobAt e S r) q f);
     rest = λ q o roots h. reading-rest (tellLength r) r (lengthOn e N P R) (unfold named in refl) (unfold walked in refl) q
-        (λ b m w. unfold lengthOn in done-refused w) o roots h;
+        (λ b m w. unfold lengthOn in refused-done (sym w)) o roots h;
   }
   chain (read r offset size) = record {
     Value = List ℕ;
@@ -258,7 +249,7 @@ module _ (e : Edition) (p : Proper e) (S : Store) where
     rest = λ q o roots h. reading-rest (read r offset size) r (readOn e N P R offset size) (unfold named in refl) (unfold walked in refl) q
         (λ b m w. unfold readOn refusePast in
         by-if (ltb (lengthOf b) (offset + size)) 10 _ (Table e S (read r offset size) q) w
-        (λ t k. refusal-10-read r offset size b refl m (ltb-true (lengthOf b) (offset + size) t) k) (λ t z. done-refused z)) o roots h;
+        (λ t k. refusal-10-read r offset size b refl m (ltb-true (lengthOf b) (offset + size) t) k) (λ t z. refused-done (sym z))) o roots h;
   }
   chain (showLeaf r i) = record {
     Value = ℕ × ℕ;
@@ -271,5 +262,5 @@ module _ (e : Edition) (p : Proper e) (S : Store) where
     rest = λ q o roots h. reading-rest (showLeaf r i) r (showOn e N P R i) (unfold named in refl) (unfold walked in refl) q
         (λ b m w. unfold showOn in
         by-if (leb (length (leavesOf b)) i) 10 _ (Table e S (showLeaf r i) q) w
-        (λ t k. refusal-10-show r i b refl m (leb-true (length (leavesOf b)) i t) k) (λ t z. done-refused z)) o roots h;
+        (λ t k. refusal-10-show r i b refl m (leb-true (length (leavesOf b)) i t) k) (λ t z. refused-done (sym z))) o roots h;
   }

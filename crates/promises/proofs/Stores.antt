@@ -2,6 +2,7 @@
 -- laws, their blobs, and what the audit counts there.
 use mathlib.Core.Path.{_≡_, refl, sym, ap, subst, _∙_}
 use mathlib.Core.Logic.{⊎-elim}
+use mathlib.Core.Bool.{true}
 use mathlib.Core.List.{List, [], _∷_, _++_, List·Memᴰ, List·Memᴰ·head, List·Memᴰ·tail, List·Memᴰ·append-cases, List·Memᴰ·cases-cons}
 use Prim.Native.Nat.{ℕ, suc, _+_, _*_, _≤_, _<_}
 use native.Mathlib.Omega.{arith}
@@ -15,10 +16,10 @@ use Rattle.meaning.specs.Bytes.{block, countOf, dataOf}
 use Rattle.meaning.specs.Tree.{Blob, rootOf, contentOf, leavesOf, slotsOf, lengthOf}
 use Rattle.meaning.specs.Walk.{fine, blobCheck}
 use Rattle.meaning.specs.Change.{Store}
-use Rattle.meaning.specs.Calls.{Outcome, refuseIf, opened, reading, refusePast, live}
+use Rattle.meaning.specs.Calls.{Outcome, refuseIf, sized, opened, reading, refusePast, live}
 use Rattle.meaning.specs.Calls.{lengthCall, lengthIn, lengthOn, readCall, readIn, readOn, showCall, showIn, showOn, auditCall, auditIn, auditOn}
 use Rattle.meaning.specs.Answers.{yields}
-use Rattle.meaning.specs.Run.{audit, tellLength, read, showLeaf, says, blocksOf}
+use Rattle.meaning.specs.Run.{Call, audit, tellLength, read, showLeaf, says, run, blocksOf}
 use Rattle.laws.proofs.Numbers.{part-part}
 use Rattle.laws.proofs.Walked.{mem-at, walk-here, LeafHere}
 use Rattle.laws_resize.proofs.resizing.SlotCounts.{times-cons}
@@ -30,7 +31,7 @@ use Rattle.laws_sound.proofs.sound.Pools.{Pool, pool-found, pool-passes}
 use Rattle.laws_sound.proofs.again.Outcomes.{Opens, Lengths, sized-lengths, Among, blob-among, among-walk}
 use Rattle.laws_sound.proofs.again.Counts.{entries, live-count, all-blocks}
 use Rattle.laws_sound.proofs.again.Done.{Good, among-others}
-use Rattle.laws_sound.proofs.again.Runs.{good-passes}
+use Rattle.laws_sound.proofs.again.Runs.{run-good, good-passes}
 use Rattle.promises.proofs.Said.{saidBy, oneNumber, allBytes, leafShown, says-audit, says-length, says-read, says-show}
 use Rattle.promises.proofs.Refused.{opened-passed, root-passed, check-passed}
 use Rattle.promises.specs.Demands.{slotsAt, blobAt, poolAt, Opened, Passes, Finds, asBook}
@@ -52,6 +53,12 @@ good-is e S bs g = (is-opened e S (g .opens), (_, good-passes e S bs g))
 pub pool-is : (e : Edition) (S : Store) (bs : List Blob) → Opens e (S .pool) (S .records)
     → Pool e (slotsAt e S) (S .pool) (S .records) bs → Passes e S bs
 pool-is e S bs o q = (is-opened e S o, (_, pool-passes e (slotsAt e S) (S .pool) (S .records) bs q))
+
+-- each moment of a run passes
+pub moment-passes : (e : Edition) → Proper e → (S : Store) → sized e (S .pool) (S .records) ≡ true → (calls : List Call) (M : Store)
+    → List·Memᴰ M (run e S calls) → (bs : List Blob) × Passes e M bs
+moment-passes e p S h calls M m =
+    let (bs, g) = every-mem (λ M. (bs : List Blob) × Good e M bs) (run-good e p S h calls) m in (bs, good-is e M bs g)
 
 -- a blob's root is a slot of its pool
 pub root-below : (e : Edition) (N : ℕ) (P R : List ℕ) (b : Blob) → Lies e N P R b → rootOf b < N

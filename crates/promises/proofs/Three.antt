@@ -1,10 +1,10 @@
 -- Demand three, from the laws of histories: at every moment of a run the store passes every check, so nothing need be assumed of the moment.
-use mathlib.Core.Path.{_≡_, refl, sym, ap, subst, _∙_}
+use mathlib.Core.Path.{_≡_, sym, ap, subst, _∙_}
 use mathlib.Core.Logic.{_↔_, ⊎-elim}
 use mathlib.Core.Bool.{true}
 use mathlib.Core.List.{List, [], _∷_, List·Memᴰ, List·Memᴰ·head, List·Memᴰ·tail}
 use Prim.Native.Nat.{ℕ, _+_, _*_, _≤_}
-use lib.ListN.{length, replicate}
+use lib.ListN.{length}
 use Rattle.meaning.specs.declared.Edition.{Edition}
 use Rattle.meaning.specs.Edition.{Proper}
 use Rattle.meaning.specs.Bytes.{state}
@@ -20,12 +20,8 @@ use Rattle.laws_history.proofs.Local.{Same}
 use Rattle.laws_history.proofs.Started.{blank, held, FromRun, run-slots}
 use Rattle.laws_history.proofs.Answered.{Exact, FirstOther, each-or-first}
 use Rattle.laws_history.proofs.Demand.{Answers, reading-demand, audit-demand}
-use Rattle.laws_sound.proofs.sound.TimesListed.{marked}
-use Rattle.laws_sound.proofs.sound.Pools.{allSlots}
-use Rattle.laws_sound.proofs.again.Done.{Good}
-use Rattle.laws_sound.proofs.again.Runs.{run-good, good-passes}
 use Rattle.promises.proofs.Said.{saidBy, oneNumber, allBytes, leafShown, said-refused, refused-said, said-done, says-audit, says-length, says-read, says-show}
-use Rattle.promises.proofs.Stores.{in-middle}
+use Rattle.promises.proofs.Stores.{in-middle, moment-passes}
 use Rattle.promises.specs.Demands as demands
 use Rattle.promises.specs.Demands.{AsItWas, reader, Told, Filled, DemandThree}
 
@@ -112,14 +108,11 @@ module _ (e : Edition) (p : Proper e) (S₀ : Store) (good : sized e (S₀ .pool
   filled : FromRun e S₀ calls P*
   filled x h = ⊎-elim (λ q. blank q) (λ (T, y, m, k, q). held T y m k q) (fill x h)
 
-  -- the moment's store passes every check
-  passes : (bs : List Blob) × Good e S bs
-  passes = every-mem (λ M. (bs : List Blob) × Good e M bs) (run-good e p S₀ good calls) moment
-
-  -- its pool check, with as many slots as the run has
-  checks : poolCheck e (slotsIn e (S₀ .pool)) (S .pool) (S .records)
-      ≡ fine (passes .0) (marked (replicate (slotsIn e (S .pool)) 0) (allSlots (passes .0)))
-  checks = ap (λ (n : ℕ). poolCheck e n (S .pool) (S .records)) (sym (run-slots e p S₀ good calls S moment)) ∙ good-passes e S (passes .0) (passes .1)
+  -- the moment's pool check, with as many slots as the run has
+  checks : (bs : List Blob) × (seen : List ℕ) × (poolCheck e (slotsIn e (S₀ .pool)) (S .pool) (S .records) ≡ fine bs seen)
+  checks =
+      let (bs, (o, (seen, f))) = moment-passes e p S₀ good calls S moment in
+      (bs, seen, ap (λ (n : ℕ). poolCheck e n (S .pool) (S .records)) (sym (run-slots e p S₀ good calls S moment)) ∙ f)
 
   -- length, read and show
   pub reading-told : (r : ℕ) → state (S .records) r ≡ 2
@@ -127,7 +120,7 @@ module _ (e : Edition) (p : Proper e) (S₀ : Store) (good : sized e (S₀ .pool
       × ((offset size k : ℕ) (c : Call) → List·Memᴰ c (tellLength r ∷ read r offset size ∷ showLeaf r k ∷ []) → Told e S P* b c)
   reading-told r root =
       let n : ℕ = slotsIn e (S₀ .pool) in
-      let a = reading-demand e p S₀ good calls S moment _ _ checks P* size filled r root in
+      let a = reading-demand e p S₀ good calls S moment _ _ (checks .2) P* size filled r root in
       let same = run-slots e p S₀ good calls S moment in
       (a .blob, a .seen, ap (λ (n : ℕ). blobCheck e n (S .pool) (S .records) r) same ∙ a .found, told e n S P* r a)
 
@@ -135,7 +128,7 @@ module _ (e : Edition) (p : Proper e) (S₀ : Store) (good : sized e (S₀ .pool
   pub audit-told : ((vs : List ℕ) × (says e (reader P* S) audit ≡ yields vs)) ↔ (P* ≡ S .pool)
   unfolding saidBy
   audit-told =
-      let a = audit-demand e p S₀ good calls S moment _ _ checks P* size filled in (
+      let a = audit-demand e p S₀ good calls S moment _ _ (checks .2) P* size filled in (
         (λ (vs, h). let (n, cs, q, v) = said-done oneNumber (auditCall e P* (S .records)) vs (sym (says-audit e (reader P* S)) ∙ h) in a .only n cs q),
         (λ q. (_, says-audit e (reader P* S) ∙ ap (saidBy oneNumber) (a .same q))),
       )

@@ -1,7 +1,7 @@
 -- Demand two, from the laws of shapes, of resizing, of calls that are done and of runs.
 use mathlib.Core.Path.{_≡_, refl, sym, ap, ap₂, subst, _∙_}
 use mathlib.Core.Bool.{true}
-use mathlib.Core.List.{List, [], _∷_, _++_, map, List·Memᴰ}
+use mathlib.Core.List.{List, [], _∷_, _++_, map}
 use Prim.Native.Nat.{ℕ, zero, suc, _+_, _-_, _<_}
 use native.Mathlib.Omega.{arith}
 use borrow.Author.Tests.{ltb-false}
@@ -29,13 +29,11 @@ use Rattle.laws.proofs.Walked.{walk-shaped}
 use Rattle.laws_resize.proofs.resizing.SlotCounts.{slots-for}
 use Rattle.laws_resize.proofs.resizing.Resized.{none-new}
 use Rattle.laws_sound.proofs.again.Outcomes.{done-same, refuseIf-done, afterCheck-done, sized-lengths, opened-done}
-use Rattle.laws_sound.proofs.again.Done.{Good}
-use Rattle.laws_sound.proofs.again.Runs.{run-good, run-live, run-end}
-use Rattle.laws.proofs.Every.{every-mem}
+use Rattle.laws_sound.proofs.again.Runs.{run-live, run-end}
 use Rattle.promises.proofs.Said.{saidBy, oneNumber, allBytes, said-done, says-audit, says-read}
-use Rattle.promises.proofs.Stores.{in-middle, good-is, gives-length, gives-bytes, gives-leaf, gives-count, is-alive}
+use Rattle.promises.proofs.Stores.{in-middle, moment-passes, gives-length, gives-bytes, gives-leaf, gives-count, is-alive}
 use Rattle.promises.proofs.Done.{create-turns, write-turns, resize-turns, delete-turns}
-use Rattle.promises.specs.Demands.{slotsAt, blobAt, newAt, Opened, bareTree, shapeOf, Passes, Finds, Became, DemandTwo}
+use Rattle.promises.specs.Demands.{slotsAt, blobAt, newAt, Opened, bareTree, shapeOf, Finds, Became, DemandTwo}
 
 -- two functions that agree map alike
 each-is : {A : Type 0} (f g : A → A) → ((x : A) → f x ≡ g x) → (l : List A) → map f l ≡ map g l
@@ -115,13 +113,7 @@ read-filled e S r offset size d h x out out′ a =
     let (v, cs, q, same) = said-done allBytes (readCall e (S .pool) (S .records) r offset size) d (sym (says-read e S r offset size) ∙ h) in
     (a .output ∙ ap (λ o. readOut o out) q ∙ same, ap length (sym same) ∙ read-length e S r offset size q)
 
--- each moment of a run
-moment-passes : (e : Edition) → Proper e → (S : Store) → sized e (S .pool) (S .records) ≡ true → (calls : List Call) (M : Store)
-    → List·Memᴰ M (run e S calls) → (bs : List Blob) × Passes e M bs
-moment-passes e p S h calls M m =
-    let (bs, g) = every-mem (λ M. (bs : List Blob) × Good e M bs) (run-good e p S h calls) m in (bs, good-is e M bs g)
-
--- after all of its calls: its live slots
+-- after all calls of a run: its live slots
 end-live : (e : Edition) → Proper e → (S : Store) → sized e (S .pool) (S .records) ≡ true → (calls : List Call) (M : Store)
     → M ≡ getD (run e S calls) (length calls) S
     → length (live e (slotsAt e M) (M .pool) (M .records)) ≡ blocksOf e (bookOf e S calls)
