@@ -1,0 +1,219 @@
+/* Each call of two libraries, timed by turns in one run: the one of before, whose functions host/compare renames to old_tj_.., and the one of now.
+ * Prints a row of a table for each call: nanoseconds before and now, medians, and their ratio, where one blob fills the pool.
+ *     compare ROUNDS */
+#define _POSIX_C_SOURCE 199309L
+#include <stdio.h>
+#include <stdlib.h>
+#include <string.h>
+#include <time.h>
+
+#include "tjornsaki.h"
+
+#define SAMPLES 20 /* of each library, in a round */
+#define BATCH 8    /* calls in a sample, at the smaller pool */
+
+void old_tj_wipe(uint8_t *, size_t, uint8_t *, size_t, uint64_t *);
+void old_tj_create(uint8_t *, size_t, uint8_t *, size_t, uint64_t *);
+void old_tj_length(const uint8_t *, size_t, const uint8_t *, size_t, uint64_t, uint64_t *);
+void old_tj_read(const uint8_t *, size_t, const uint8_t *, size_t, uint64_t, uint64_t, uint8_t *, size_t, uint64_t *);
+void old_tj_write(uint8_t *, size_t, uint8_t *, size_t, uint64_t, uint64_t, const uint8_t *, size_t, uint64_t *);
+void old_tj_resize(uint8_t *, size_t, uint8_t *, size_t, uint64_t, uint64_t, uint64_t *);
+void old_tj_delete(uint8_t *, size_t, uint8_t *, size_t, uint64_t, uint64_t *);
+void old_tj_show(const uint8_t *, size_t, const uint8_t *, size_t, uint64_t, uint64_t, uint64_t *);
+void old_tj_audit(const uint8_t *, size_t, const uint8_t *, size_t, uint64_t *);
+
+/* A store with its one blob, of root 0. */
+typedef struct {
+    uint8_t *pool, *records;
+    size_t pool_length, records_length;
+    uint64_t length, answer[TJ_ANSWER];
+} store;
+
+static uint8_t data[TJ_BLOCK * TJ_SLOTS], out[TJ_BLOCK * TJ_SLOTS];
+
+/* A call of the library of now, or of before. */
+#define BOTH(name, ...) \
+    if (now) \
+        tj_##name(s->pool, s->pool_length, s->records, s->records_length, __VA_ARGS__); \
+    else \
+        old_tj_##name(s->pool, s->pool_length, s->records, s->records_length, __VA_ARGS__)
+
+#define MIDDLE (s->length / (2 * TJ_LEAF) * TJ_LEAF)
+
+static void wipe(store *s, int now) { BOTH(wipe, s->answer); }
+static void create(store *s, int now) { BOTH(create, s->answer); }
+static void tell(store *s, int now) { BOTH(length, 0, s->answer); }
+static void read_all(store *s, int now) { BOTH(read, 0, 0, out, s->length, s->answer); }
+static void read_leaf(store *s, int now) { BOTH(read, 0, MIDDLE, out, TJ_LEAF, s->answer); }
+static void show(store *s, int now) { BOTH(show, 0, s->length / TJ_LEAF - 1, s->answer); }
+static void audit(store *s, int now) { BOTH(audit, s->answer); }
+static void write_all(store *s, int now) { BOTH(write, 0, 0, data, s->length, s->answer); }
+static void write_leaf(store *s, int now) { BOTH(write, 0, MIDDLE, data, TJ_LEAF, s->answer); }
+static void grow(store *s, int now) { BOTH(resize, 0, s->length, s->answer); }
+static void empty(store *s, int now) { BOTH(resize, 0, 0, s->answer); }
+static void more(store *s, int now) { BOTH(resize, 0, s->length + TJ_LEAF, s->answer); }
+static void less(store *s, int now) { BOTH(resize, 0, s->length - TJ_LEAF, s->answer); }
+static void remove_blob(store *s, int now) { BOTH(delete, 0, s->answer); }
+
+/* What is timed, on a pool that the blob fills but for so many slots; grow starts from an empty blob. */
+static const struct {
+    const char *name;
+    void (*call)(store *, int);
+    int spare;
+} cases[] = {
+    {"length", tell, 0}, {"read, whole blob", read_all, 0}, {"read, 48 bytes", read_leaf, 0}, {"show, last leaf", show, 0}, {"audit", audit, 0},
+    {"wipe", wipe, 0}, {"create", create, 1}, {"write, whole blob", write_all, 0}, {"write, 48 bytes", write_leaf, 0}, {"resize, from 0 to all", grow, 0},
+    {"resize, all to 0", empty, 0}, {"resize, one leaf more", more, 4}, {"resize, one leaf less", less, 0}, {"delete", remove_blob, 0},
+};
+
+static void fail(const char *why)
+{
+    fprintf(stderr, "compare: %s\n", why);
+    exit(1);
+}
+
+static void must(const store *s)
+{
+    if (s->answer[TJ_REFUSAL] != TJ_DONE) {
+        fail("a call was refused");
+    }
+}
+
+/* The leaves of the largest blob in so many slots. */
+static uint64_t leaves_in(uint64_t slots)
+{
+    uint64_t n;
+    for (n = 1;; n++) {
+        uint64_t total = 1, row;
+        for (row = n + 1; row > 1; row = (row + 11) / 12) {
+            total += row;
+        }
+        if (total > slots) {
+            return n;
+        }
+    }
+}
+
+static store make(size_t slots)
+{
+    store s;
+    memset(&s, 0, sizeof s);
+    s.pool_length = TJ_BLOCK * slots;
+    s.records_length = TJ_RECORD * slots;
+    s.pool = malloc(s.pool_length);
+    s.records = malloc(s.records_length);
+    if (s.pool == NULL || s.records == NULL) {
+        fail("no memory");
+    }
+    return s;
+}
+
+static store filled(size_t slots, int spare, int starts_empty)
+{
+    store s = make(slots);
+    wipe(&s, 1);
+    create(&s, 1);
+    s.length = TJ_LEAF * leaves_in(slots - (size_t)spare);
+    grow(&s, 1);
+    must(&s);
+    write_all(&s, 1);
+    must(&s);
+    if (starts_empty) {
+        empty(&s, 1);
+    }
+    return s;
+}
+
+static void refresh(store *s, const store *from)
+{
+    memcpy(s->pool, from->pool, s->pool_length);
+    memcpy(s->records, from->records, s->records_length);
+    s->length = from->length;
+}
+
+/* Both libraries leave the same numbers and bytes. */
+static void agree(void (*call)(store *, int), const store *before, store *a, store *b)
+{
+    refresh(a, before);
+    refresh(b, before);
+    call(a, 0);
+    call(b, 1);
+    must(a);
+    if (memcmp(a->answer, b->answer, sizeof a->answer) != 0 || memcmp(a->pool, b->pool, a->pool_length) != 0
+        || memcmp(a->records, b->records, a->records_length) != 0) {
+        fail("the two libraries differ");
+    }
+}
+
+static double nanoseconds(void)
+{
+    struct timespec t;
+    clock_gettime(CLOCK_MONOTONIC, &t);
+    return (double)t.tv_sec * 1e9 + (double)t.tv_nsec;
+}
+
+static int by_size(const void *a, const void *b)
+{
+    double x = *(const double *)a, y = *(const double *)b;
+    return (x > y) - (x < y);
+}
+
+static double median(double *times, size_t count)
+{
+    qsort(times, count, sizeof *times, by_size);
+    return times[count / 2];
+}
+
+/* One sample: a batch of calls, each on a fresh copy of the store. */
+static double sample(void (*call)(store *, int), int now, const store *before, store *copies, int batch)
+{
+    double start;
+    int i;
+    for (i = 0; i < batch; i++) {
+        refresh(&copies[i], before);
+    }
+    start = nanoseconds();
+    for (i = 0; i < batch; i++) {
+        call(&copies[i], now);
+    }
+    return (nanoseconds() - start) / batch;
+}
+
+static void compare(size_t which, size_t slots, size_t rounds)
+{
+    void (*call)(store *, int) = cases[which].call;
+    store before = filled(slots, cases[which].spare, call == grow), copies[BATCH];
+    size_t count = rounds * SAMPLES, i;
+    double *times[2] = {malloc(count * sizeof(double)), malloc(count * sizeof(double))};
+    int batch = slots > 64 ? 1 : BATCH, k;
+    if (times[0] == NULL || times[1] == NULL) {
+        fail("no memory");
+    }
+    for (k = 0; k < BATCH; k++) {
+        copies[k] = make(slots);
+    }
+    agree(call, &before, &copies[0], &copies[1]);
+    for (i = 0; i < count; i++) {
+        for (k = 0; k < 2; k++) {
+            int now = (int)((i + (size_t)k) % 2);
+            times[now][i] = sample(call, now, &before, copies, batch);
+        }
+    }
+    printf("| %s | %zu | %.0f | %.0f | %.2f |\n", cases[which].name, slots, median(times[0], count), median(times[1], count),
+           median(times[1], count) / median(times[0], count));
+}
+
+int main(int count, char **words)
+{
+    size_t rounds = count == 2 ? strtoul(words[1], NULL, 10) : 0, which;
+    if (rounds == 0) {
+        fail("usage: compare ROUNDS");
+    }
+    memset(data, 7, sizeof data);
+    puts("| call | slots | before, ns | now, ns | now over before |\n|---|--:|--:|--:|--:|");
+    for (which = 0; which < sizeof cases / sizeof *cases; which++) {
+        compare(which, 64, rounds);
+        compare(which, 1024, rounds);
+    }
+    return 0;
+}
