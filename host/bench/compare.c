@@ -29,7 +29,8 @@ typedef struct {
     uint64_t length, answer[TJ_ANSWER];
 } store;
 
-static uint8_t data[TJ_BLOCK * TJ_SLOTS], out[TJ_BLOCK * TJ_SLOTS];
+/* What the blob holds at first, what is written into it, and where it is read to. */
+static uint8_t first[TJ_BLOCK * TJ_SLOTS], data[TJ_BLOCK * TJ_SLOTS], out[TJ_BLOCK * TJ_SLOTS];
 
 /* A call of the library of now, or of before. */
 #define BOTH(name, ...) \
@@ -47,6 +48,7 @@ static void read_all(store *s, int now) { BOTH(read, 0, 0, out, s->length, s->an
 static void read_leaf(store *s, int now) { BOTH(read, 0, MIDDLE, out, TJ_LEAF, s->answer); }
 static void show(store *s, int now) { BOTH(show, 0, s->length / TJ_LEAF - 1, s->answer); }
 static void audit(store *s, int now) { BOTH(audit, s->answer); }
+static void fill(store *s, int now) { BOTH(write, 0, 0, first, s->length, s->answer); }
 static void write_all(store *s, int now) { BOTH(write, 0, 0, data, s->length, s->answer); }
 static void write_leaf(store *s, int now) { BOTH(write, 0, MIDDLE, data, TJ_LEAF, s->answer); }
 static void grow(store *s, int now) { BOTH(resize, 0, s->length, s->answer); }
@@ -116,7 +118,7 @@ static store filled(size_t slots, int spare, int starts_empty)
     s.length = TJ_LEAF * leaves_in(slots - (size_t)spare);
     grow(&s, 1);
     must(&s);
-    write_all(&s, 1);
+    fill(&s, 1);
     must(&s);
     if (starts_empty) {
         empty(&s, 1);
@@ -209,6 +211,7 @@ int main(int count, char **words)
     if (rounds == 0) {
         fail("usage: compare ROUNDS");
     }
+    memset(first, 5, sizeof first);
     memset(data, 7, sizeof data);
     puts("| call | slots | before, ns | now, ns | now over before |\n|---|--:|--:|--:|--:|");
     for (which = 0; which < sizeof cases / sizeof *cases; which++) {
