@@ -76,9 +76,9 @@ unfolding renewed
 renewed-single e R st s c = inr (_, _, refl, encoded-length e c s _, record-length st _)
 
 -- what the first change makes of what was
-unfoldable pub made : (Change → List ℕ) → List Change → List ℕ → List ℕ
-made f [] was = was
-made f (c ∷ cs) was = f c
+unfoldable pub leftBy : (Change → List ℕ) → List Change → List ℕ → List ℕ
+leftBy f [] was = was
+leftBy f (c ∷ cs) was = f c
 
 -- a slot's changes are none or one
 pub changed-single : (e : Edition) (R : List ℕ) (taken s : ℕ) (old new : Held) → Single e s (changed e R taken s old new)
@@ -94,12 +94,12 @@ module _ (e : Edition) (w N : ℕ) (f : Change → List ℕ)
   -- after one slot's changes
   record OneStep (s : ℕ) (cs : List Change) (l : List ℕ) : Type 0 where
     long : length (puts w f cs l) ≡ length l
-    here : part (w * s) w (puts w f cs l) ≡ made f cs (part (w * s) w l)
+    here : part (w * s) w (puts w f cs l) ≡ leftBy f cs (part (w * s) w l)
     there : (j : ℕ) → (j ≡ s → ⊥) → part (w * j) w (puts w f cs l) ≡ part (w * j) w l
 
   -- so it is
   one-step : (s : ℕ) (cs : List Change) (l : List ℕ) → Single e s cs → s < N → length l ≡ w * N → OneStep s cs l
-  unfolding puts made
+  unfolding puts leftBy
   one-step s cs l (inl q) low long = rw q (record { long = refl; here = refl; there = λ j h. refl })
   one-step s cs l (inr (b, line, q, whole, lined)) low long =
       let c : Change = record { slot = s; block = b; line = line } in
@@ -116,7 +116,7 @@ module _ (e : Edition) (w N : ℕ) (f : Change → List ℕ)
       pub long : length (puts w f (changes e R taken old new (range from n)) l) ≡ length l
       pub below : (j : ℕ) → j < from → part (w * j) w (puts w f (changes e R taken old new (range from n)) l) ≡ part (w * j) w l
       pub within : (j : ℕ) → from ≤ j → j < from + n
-          → part (w * j) w (puts w f (changes e R taken old new (range from n)) l) ≡ made f (changed e R taken j (old j) (new j)) (part (w * j) w l)
+          → part (w * j) w (puts w f (changes e R taken old new (range from n)) l) ≡ leftBy f (changed e R taken j (old j) (new j)) (part (w * j) w l)
 
     -- so it is
     pub ranged : (from n : ℕ) (l : List ℕ) → from + n ≤ N → length l ≡ w * N → Ranged from n l
@@ -133,7 +133,7 @@ module _ (e : Edition) (w N : ℕ) (f : Change → List ℕ)
           within = λ j h k. ap (part (w * j) w) app ∙ by-test (eqb j from)
               (λ t. rw (eqb-true j from t) (r .below from (omega arith) ∙ s .here))
               (λ t. let other = eqb-false j from t in
-              r .within j (omega arith) (omega arith) ∙ ap (made f (changed e R taken j (old j) (new j))) (s .there j other));
+              r .within j (omega arith) (omega arith) ∙ ap (leftBy f (changed e R taken j (old j) (new j))) (s .there j other));
         }
 
 -- a store of N slots after the changes of all slots
@@ -163,12 +163,12 @@ module _ (e : Edition) (N : ℕ) (S : Store) (taken : ℕ) (old new : ℕ → He
 
   -- each slot's block is its change's, or what it was
   pub then-block : (s : ℕ) → s < N
-      → block e (Then .pool) s ≡ made (λ c. c .block) (changed e (S .records) taken s (old s) (new s)) (block e (S .pool) s)
+      → block e (Then .pool) s ≡ leftBy (λ c. c .block) (changed e (S .records) taken s (old s) (new s)) (block e (S .pool) s)
   unfolding changedBy block
   then-block s low = pools .within s (omega arith) (omega arith)
 
   -- and so is its record
   pub then-record : (s : ℕ) → s < N
-      → recordAt (Then .records) s ≡ made (λ c. c .line) (changed e (S .records) taken s (old s) (new s)) (recordAt (S .records) s)
+      → recordAt (Then .records) s ≡ leftBy (λ c. c .line) (changed e (S .records) taken s (old s) (new s)) (recordAt (S .records) s)
   unfolding changedBy recordAt
   then-record s low = records .within s (omega arith) (omega arith)

@@ -13,7 +13,7 @@ use Rattle.meaning.specs.Tree.{Held, nothing, just}
 use Rattle.meaning.specs.Change.{Store, freed, renewed, changed}
 use Rattle.laws.proofs.Codec.{recorded-of, state-known, record-kept}
 use Rattle.laws.proofs.Inversions.{by-test}
-use Rattle.laws.proofs.Puts.{made, Then, then-pool, then-records, then-block, then-record}
+use Rattle.laws.proofs.Puts.{leftBy, Then, then-pool, then-records, then-block, then-record}
 
 -- slot x has risen from store S to S′: it is live and holds a cell, at the version after its recorded one, in block and record alike
 pub record Risen (e : Edition) (S S′ : Store) (x : ℕ) : Type 0 where
@@ -75,10 +75,10 @@ module _ (e : Edition) (N : ℕ) (S : Store) (is : Settled e N S) (taken : ℕ) 
 
   -- by what the slot held and holds
   by-held : (x : ℕ) → x < N → (o n : Held) → old x ≡ o → new x ≡ n
-      → block e (turned .pool) x ≡ made (λ c. c .block) (changed e (S .records) taken x o n) (block e (S .pool) x)
-      → recordAt (turned .records) x ≡ made (λ c. c .line) (changed e (S .records) taken x o n) (recordAt (S .records) x)
+      → block e (turned .pool) x ≡ leftBy (λ c. c .block) (changed e (S .records) taken x o n) (block e (S .pool) x)
+      → recordAt (turned .records) x ≡ leftBy (λ c. c .line) (changed e (S .records) taken x o n) (recordAt (S .records) x)
       → Stepped e S turned x
-  unfolding changed freed renewed made pick
+  unfolding changed freed renewed leftBy pick
   by-held x h nothing nothing p q b r = same b r
   by-held x h nothing (just c) p q b r = rise x taken c h (ready .live) (ready .known) q b r
   by-held x h (just d) nothing p q b r = gone b r

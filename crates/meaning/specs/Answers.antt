@@ -52,20 +52,24 @@ readOut (done d cs) out = d
 unfoldable pub wipeAnswer : Edition → (P R : List ℕ) → Finished
 wipeAnswer e P R = pick (sized e P R) finishedCase.Done (finishedCase.Refused (nowhere 1))
 
--- where a shown leaf's data bytes lie in the pool
+-- where in the pool the data bytes of slot s start
+abbrev pub dataStart : Edition → (s : ℕ) → ℕ
+dataStart e s = e .size * s + 16
+
+-- where a shown leaf's data bytes lie in the pool, and how many they are
 unfoldable pub leafAnswer : Edition → Outcome (ℕ × ℕ) → Leaf
 leafAnswer e (refused r) = leafCase.Refused r
-leafAnswer e (done v cs) = leafCase.At (e .size * v .0 + 16) (v .1)
+leafAnswer e (done v cs) = leafCase.At (dataStart e (v .0)) (v .1)
 
 -- where in the pool show's part starts: at the leaf's data bytes; the empty part of a refusal at the pool's first byte
 unfoldable pub shownAt : Edition → Outcome (ℕ × ℕ) → ℕ
 shownAt e (refused r) = 0
-shownAt e (done v cs) = e .size * v .0 + 16
+shownAt e (done v cs) = dataStart e (v .0)
 
 -- show's part of the pool: the leaf's data bytes as they lie there; a refusal shows an empty part
 unfoldable pub shownPart : Edition → (P : List ℕ) → Outcome (ℕ × ℕ) → List ℕ
 shownPart e P (refused r) = []
-shownPart e P (done v cs) = part (e .size * v .0 + 16) (v .1) P
+shownPart e P (done v cs) = part (dataStart e (v .0)) (v .1) P
 
 -- show's lent numbers: the refusal's number and named slot, 0 and no slot on success
 unfoldable pub shownNumber : Outcome (ℕ × ℕ) → ℕ

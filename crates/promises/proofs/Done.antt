@@ -30,7 +30,7 @@ use Rattle.laws_sound.proofs.sound.Cells.{cellSlots}
 use Rattle.laws_sound.proofs.sound.TimesListed.{by-times, times-none}
 use Rattle.laws_sound.proofs.sound.Blobs.{Lies, lies-within}
 use Rattle.laws_sound.proofs.sound.Pools.{pool-one}
-use Rattle.laws.proofs.Puts.{made, then-pool, then-block, then-record}
+use Rattle.laws.proofs.Puts.{leftBy, then-pool, then-block, then-record}
 use Rattle.laws_sound.proofs.sound.After.{held-none, held-some, same-cell}
 use Rattle.laws_sound.proofs.again.Parting.{blob-met}
 use Rattle.laws_sound.proofs.again.Outcomes.{Opens, opened-done, afterCheck-done, refuseIf-done, done-same, sized-lengths, Lengths, changing-done, among-lies}
@@ -50,10 +50,10 @@ other-cell a c t q =
 
 -- what the changes of a slot make of it, by what it held and holds
 slot-turns : (e : Edition) (S S′ : Store) (taken x : ℕ) (o n : Held)
-    → block e (S′ .pool) x ≡ made (λ c. c .block) (changed e (S .records) taken x o n) (block e (S .pool) x)
-    → recordAt (S′ .records) x ≡ made (λ c. c .line) (changed e (S .records) taken x o n) (recordAt (S .records) x)
+    → block e (S′ .pool) x ≡ leftBy (λ c. c .block) (changed e (S .records) taken x o n) (block e (S .pool) x)
+    → recordAt (S′ .records) x ≡ leftBy (λ c. c .line) (changed e (S .records) taken x o n) (recordAt (S .records) x)
     → Turns e S S′ taken x o n
-unfolding Turns made changed freed renewed pick
+unfolding Turns leftBy changed freed renewed pick
 slot-turns e S S′ taken x nothing nothing b r = (b, r)
 slot-turns e S S′ taken x nothing (just c) b r = (b, r)
 slot-turns e S S′ taken x (just a) nothing b r = (b, r)

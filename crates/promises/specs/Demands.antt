@@ -17,7 +17,7 @@ use Rattle.meaning.specs.Walk.{Found, fault, fine, andThen, blobCheck, poolChec
 use Rattle.meaning.specs.Change.{Store}
 use Rattle.meaning.specs.Resize as resizing
 use Rattle.meaning.specs.Calls.{Outcome, slotsIn, sized, usable, live, newBlocks, readCall, afterWipe}
-use Rattle.meaning.specs.Answers.{wipeAnswer, Ends, Wipes, Reads, Said, yields, refuses, lengthSaid, auditSaid, createdSaid, changedSaid, finishedSaid, leafSaid}
+use Rattle.meaning.specs.Answers.{wipeAnswer, dataStart, Ends, Wipes, Reads, Said, yields, refuses, lengthSaid, auditSaid, createdSaid, changedSaid, finishedSaid, leafSaid}
 use Rattle.meaning.specs.Run.{Call, create, audit, write, resize, delete, tellLength, read, showLeaf, says, perform, run, bookOf, blocksOf}
 use Rattle.meaning.specs.declared.Edition.{Edition}
 use Rattle.meaning.specs.declared.Named.the-variants.{Slot}
@@ -194,7 +194,7 @@ pub record DemandTwo (e : Edition) : Type 0 where
   pub gives-bytes : (S : Store) (r : ℕ) (b : Blob) → Finds e S r b → (offset size : ℕ) → offset + size ≤ lengthOf b
       → says e S (read r offset size) ≡ yields (part offset size (contentOf b))
   pub gives-leaf : (S : Store) (r : ℕ) (b : Blob) → Finds e S r b → (k s : ℕ) (d : List ℕ) → k < length (leavesOf b)
-      → getD (leavesOf b) k (0, []) ≡ (s, d) → says e S (showLeaf r k) ≡ yields ((e .size * s + 16) ∷ length d ∷ d)
+      → getD (leavesOf b) k (0, []) ≡ (s, d) → says e S (showLeaf r k) ≡ yields (dataStart e s ∷ length d ∷ d)
   -- what a read says fills the whole lent output: as many bytes as were asked for
   pub filled : (S : Store) (r offset size : ℕ) (d : List ℕ) → says e S (read r offset size) ≡ yields d → (x : Finished) (out out′ : List ℕ)
       → Reads (readCall e (S .pool) (S .records) r offset size) x out out′ → (out′ ≡ d) × (length d ≡ size)

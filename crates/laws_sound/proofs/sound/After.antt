@@ -22,7 +22,7 @@ use Rattle.laws_resize.proofs.resizing.SlotCounts.{times, times-cons}
 use Rattle.laws_sound.proofs.sound.TimesListed.{times-none, times-same, times-other, by-times}
 use Rattle.laws.proofs.Every.{Every}
 use Rattle.laws_sound.proofs.sound.Cells.{every-at, cellSlots, Reads, Written, Fits, written-reads}
-use Rattle.laws.proofs.Puts.{made, then-block, then-record}
+use Rattle.laws.proofs.Puts.{leftBy, then-block, then-record}
 use Rattle.laws_sound.proofs.sound.Replaced.{Kept, kept-state, kept-reads}
 
 -- from nothing that is something, anything
@@ -108,25 +108,25 @@ module _ (e : Edition) (N : ℕ) (S : Store) (taken : ℕ) (old new : List (ℕ 
   module _ (d : Ready) (s : ℕ) (low : s < N) where
     -- the slot's block after
     block-after : block e (Next .pool) s
-        ≡ made (λ c. c .block) (changed e (S .records) taken s (held old s) (held new s)) (block e (S .pool) s)
+        ≡ leftBy (λ c. c .block) (changed e (S .records) taken s (held old s) (held new s)) (block e (S .pool) s)
     unfolding become
     block-after = then-block e N S taken (held old) (held new) (d .whole) (d .lines) s low
 
     -- and its record
     record-after : recordAt (Next .records) s
-        ≡ made (λ c. c .line) (changed e (S .records) taken s (held old s) (held new s)) (recordAt (S .records) s)
+        ≡ leftBy (λ c. c .line) (changed e (S .records) taken s (held old s) (held new s)) (recordAt (S .records) s)
     unfolding become
     record-after = then-record e N S taken (held old) (held new) (d .whole) (d .lines) s low
 
     -- held before and after: nothing
     pub nothing-kept : held old s ≡ nothing → held new s ≡ nothing → Kept e (S .pool) (S .records) (Next .pool) (Next .records) s
-    unfolding made changed
+    unfolding leftBy changed
     nothing-kept o n = record { bytes = rw (o, n) at block-after; line = rw (o, n) at record-after }
 
     -- a cell, then nothing
     pub freed-after : (b : Cell) → held old s ≡ just b → held new s ≡ nothing
         → (state (Next .records) s ≡ 0) × (zeros (block e (Next .pool) s) ≡ true)
-    unfolding made changed freed
+    unfolding leftBy changed freed
     freed-after b o n = (
       state-of (Next .records) s 0 (recorded (S .records) s) (rw (o, n) at record-after),
       rw (rw (o, n) at block-after) (list-zeros (e .size)),
@@ -135,7 +135,7 @@ module _ (e : Edition) (N : ℕ) (S : Store) (taken : ℕ) (old new : List (ℕ 
     -- nothing, then a cell
     pub taken-after : (c : Cell) → recorded (S .records) s + 1 < 2 ^ 64 → held old s ≡ nothing → held new s ≡ just c
         → Written e N (Next .pool) (Next .records) (s, c) × (state (Next .records) s ≡ taken)
-    unfolding made changed renewed
+    unfolding leftBy changed renewed
     taken-after c y o n =
         let l : recordAt (Next .records) s ≡ recordOf taken (recorded (S .records) s + 1) = rw (o, n) at record-after in
         let v = recorded-of (Next .records) s taken (recorded (S .records) s + 1) l y in (
@@ -146,13 +146,13 @@ module _ (e : Edition) (N : ℕ) (S : Store) (taken : ℕ) (old new : List (ℕ 
     -- the same cell
     pub same-kept : (b c : Cell) → sameCell b c ≡ true → held old s ≡ just b → held new s ≡ just c
         → Kept e (S .pool) (S .records) (Next .pool) (Next .records) s
-    unfolding made changed pick
+    unfolding leftBy changed pick
     same-kept b c q o n = record { bytes = rw (o, n, q) at block-after; line = rw (o, n, q) at record-after }
 
     -- another cell
     pub renewed-after : (b c : Cell) → sameCell b c ≡ false → recorded (S .records) s + 1 < 2 ^ 64 → held old s ≡ just b → held new s ≡ just c
         → Written e N (Next .pool) (Next .records) (s, c) × (state (Next .records) s ≡ state (S .records) s)
-    unfolding made changed pick renewed
+    unfolding leftBy changed pick renewed
     renewed-after b c q y o n =
         let l : recordAt (Next .records) s ≡ recordOf (state (S .records) s) (recorded (S .records) s + 1) = rw (o, n, q) at record-after in
         let v = recorded-of (Next .records) s (state (S .records) s) (recorded (S .records) s + 1) l y in (
@@ -194,7 +194,7 @@ module _ (e : Edition) (N : ℕ) (S : Store) (taken : ℕ) (old new : List (ℕ 
     -- its record keeps its layout
     pub sound-after : taken ≤ 2 → (1 ≤ times s (cellSlots new) → recorded (S .records) s + 1 < 2 ^ 64)
         → soundRecord (recordAt (S .records) s) ≡ true → soundRecord (recordAt (Next .records) s) ≡ true
-    unfolding made changed pick renewed freed
+    unfolding leftBy changed pick renewed freed
     sound-after few young was =
         rw record-after (go (held old s) (held new s) (λ c h. young (held-there new s c h)))
       where
@@ -202,7 +202,7 @@ module _ (e : Edition) (N : ℕ) (S : Store) (taken : ℕ) (old new : List (ℕ 
         next st few y = record-kept st (recorded (S .records) s + 1) few y (λ n. omega arith)
 
         go : (o n : Held) → ((c : Cell) → n ≡ just c → recorded (S .records) s + 1 < 2 ^ 64)
-            → soundRecord (made (λ c. c .line) (changed e (S .records) taken s o n) (recordAt (S .records) s)) ≡ true
+            → soundRecord (leftBy (λ c. c .line) (changed e (S .records) taken s o n) (recordAt (S .records) s)) ≡ true
         go nothing nothing y = was
         go nothing (just c) y = next taken few (y c refl)
         go (just b) nothing y = free-sound (recorded (S .records) s)
