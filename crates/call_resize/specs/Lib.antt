@@ -1,2 +1,1 @@
 pub mod fit
-pub mod shorter

@@ -1,10 +1,10 @@
 // A blob made shorter or longer, past every refusal: the numbers that are worked out beforehand, then every slot of the blob and
 // every slot that is taken, rising.
-use crate::longer;
-use crate::shorter;
 use base_shape::shape;
 use base_slot::fields;
 use base_slot::slot;
+use call_reshape::longer;
+use call_reshape::shorter;
 use meaning::Edition;
 use plan_longer::fresh::Growth;
 use plan_longer::towers::Tower;

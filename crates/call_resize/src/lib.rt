@@ -2,10 +2,6 @@
 pub mod either;
 pub mod fit;
 pub mod found;
-pub mod longer;
-pub mod longer_slots;
-pub mod shorter;
-pub mod shorter_slots;
 
 use check_survey::Reached;
 use meaning::Changed;

@@ -6,7 +6,7 @@ use Prim.Native.Nat.{_-_, _≤_}
 use lib.ListN.{length}
 use Rattle.laws_resize.specs.growth.HeldAfter.{usableBelow}
 use Rattle.plan_longer.specs.Plans.{growPlans}
-use Rattle.call_resize.proofs.longer_slots.TurnsAsPlanned.{below-start, below-more}
+use Rattle.call_reshape.proofs.longer_slots.TurnsAsPlanned.{below-start, below-more}
 use Rattle.call_count.proofs.Counts.{Counting, counting-start, counting-fits, counting-on, counting-end, counting-most, grow-one, grow-here, grow-line}
 use Rattle.call_count.proofs.count_lengthening.Statement.{statement}
 use Rattle.call_count.proofs.count_lengthening.Tie as tie

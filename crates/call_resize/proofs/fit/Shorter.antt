@@ -16,7 +16,7 @@ use Rattle.meaning.specs.Calls.{usable, become}
 use Rattle.laws_resize.specs.growth.Cuts.{heightOfLength}
 use Rattle.check_blob.proofs.visit.VisitAsDefined.{slot-fits}
 use Rattle.check_survey.specs.sites.Spelt.{blobAt}
-use Rattle.call_resize.specs.shorter.{CutStart}
+use Rattle.call_reshape.specs.shorter.{CutStart}
 use Rattle.call_resize.specs.fit.Found.{resizedTo, Shorter}
 use Rattle.base_shape.proofs.vacancy.RoomInSums.{leaves-totalled}
 

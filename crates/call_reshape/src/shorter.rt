@@ -12,7 +12,7 @@ ghost use Rattle.meaning.specs.Tree.{cellsOf};
 ghost use Rattle.meaning.specs.Resize.{resized};
 ghost use Rattle.meaning.specs.Calls.{usable, become};
 ghost use Rattle.check_survey.specs.sites.Spelt.{blobAt};
-ghost use Rattle.call_resize.specs.shorter.{CutStart};
+ghost use Rattle.call_reshape.specs.shorter.{CutStart};
 
 // The blob of height h with that root gets shorter: the block whose row the root takes is kept, since its slot may be freed before the root is stored.
 pub fn cut_blob(

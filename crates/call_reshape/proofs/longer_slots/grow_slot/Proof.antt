@@ -1,8 +1,8 @@
 -- The slot is planned, and the plan carried out.
-use Rattle.call_resize.proofs.longer_slots.TurnsAsPlanned.{here-places, planned-puts}
+use Rattle.call_reshape.proofs.longer_slots.TurnsAsPlanned.{here-places, planned-puts}
 use borrow.Author.Needs.{needs}
-use Rattle.call_resize.proofs.longer_slots.grow_slot.Statement.{statement}
-use Rattle.call_resize.proofs.longer_slots.grow_slot.Tie as tie
+use Rattle.call_reshape.proofs.longer_slots.grow_slot.Statement.{statement}
+use Rattle.call_reshape.proofs.longer_slots.grow_slot.Tie as tie
 
 plan-slot-requires : tie.Need-plan-slot-requires
 plan-slot-requires c κs = (search needs, (search needs, (search needs, (search needs, (search needs, search needs)))))

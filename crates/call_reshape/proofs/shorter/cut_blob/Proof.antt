@@ -1,8 +1,8 @@
 -- What is known of the blob gives all that the loop asks, and that its changes are the definitions'.
-use Rattle.call_resize.proofs.shorter.ReadyToCut.{start-low, start-edge, start-cuts, start-kept, start-here, start-fresh, start-pool, start-records}
+use Rattle.call_reshape.proofs.shorter.ReadyToCut.{start-low, start-edge, start-cuts, start-kept, start-here, start-fresh, start-pool, start-records}
 use borrow.Author.Needs.{needs}
-use Rattle.call_resize.proofs.shorter.cut_blob.Statement.{statement}
-use Rattle.call_resize.proofs.shorter.cut_blob.Tie as tie
+use Rattle.call_reshape.proofs.shorter.cut_blob.Statement.{statement}
+use Rattle.call_reshape.proofs.shorter.cut_blob.Tie as tie
 
 sub-keep-left : tie.Need-sub-keep-left
 sub-keep-left c = search start-low

@@ -1,8 +1,8 @@
 -- The root's block is kept, so what is planned is planned with that block.
-use Rattle.call_resize.proofs.longer.RootKept.{root-place, kept-root, kept-puts}
+use Rattle.call_reshape.proofs.longer.RootKept.{root-place, kept-root, kept-puts}
 use borrow.Author.Needs.{needs}
-use Rattle.call_resize.proofs.longer.grow.Statement.{statement}
-use Rattle.call_resize.proofs.longer.grow.Tie as tie
+use Rattle.call_reshape.proofs.longer.grow.Statement.{statement}
+use Rattle.call_reshape.proofs.longer.grow.Tie as tie
 
 keep-root-requires : tie.Need-keep-root-requires
 keep-root-requires c κs = (search root-place, search needs)

@@ -36,8 +36,8 @@ use Rattle.plan_tree.specs.declared.cuts.Cut.{Cut}
 use Rattle.plan_tree.specs.cuts.{Cuts}
 use Rattle.plan_shorter.specs.Plans.{KeptBlock, Here, cutPlan}
 use Rattle.plan_slot.specs.keep.{firstBelow}
-use Rattle.call_resize.specs.shorter.{CutStart}
-use Rattle.call_resize.proofs.shorter.LeftEdgeKnown.{left-below, left-fits}
+use Rattle.call_reshape.specs.shorter.{CutStart}
+use Rattle.call_reshape.proofs.shorter.LeftEdgeKnown.{left-below, left-fits}
 use Rattle.plan_shorter.proofs.PlannedAsDefined.{cut-changes}
 
 -- what a list of blocks holds in a slot stands in the list

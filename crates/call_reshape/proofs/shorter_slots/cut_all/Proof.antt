@@ -5,10 +5,10 @@ use lib.ListN.{length}
 use Rattle.plan_slot.specs.change.Turns.{Turning}
 use Rattle.plan_slot.proofs.change.SlotLoop.{turning-start, pool-turned, records-turned}
 use Rattle.plan_shorter.specs.Plans.{cutPlan}
-use Rattle.call_resize.proofs.shorter_slots.TurnsAsPlanned.{turn-here, turn-places, turn-fresh, turn-done, turn-small}
+use Rattle.call_reshape.proofs.shorter_slots.TurnsAsPlanned.{turn-here, turn-places, turn-fresh, turn-done, turn-small}
 use borrow.Author.Needs.{needs}
-use Rattle.call_resize.proofs.shorter_slots.cut_all.Statement.{statement}
-use Rattle.call_resize.proofs.shorter_slots.cut_all.Tie as tie
+use Rattle.call_reshape.proofs.shorter_slots.cut_all.Statement.{statement}
+use Rattle.call_reshape.proofs.shorter_slots.cut_all.Tie as tie
 
 abbrev Inv-loop : tie.InvT-loop
 Inv-loop e c pool₀ records₀ heights firsts kept payload₀ scratch₀ n root i₀ pool records payload scratch i =

@@ -1,8 +1,8 @@
 -- The turn that is planned is carried out.
-use Rattle.call_resize.proofs.shorter_slots.TurnsAsPlanned.{carry-rises, carry-payload, carry-pool, carry-records}
+use Rattle.call_reshape.proofs.shorter_slots.TurnsAsPlanned.{carry-rises, carry-payload, carry-pool, carry-records}
 use borrow.Author.Needs.{needs}
-use Rattle.call_resize.proofs.shorter_slots.cut_slot.Statement.{statement}
-use Rattle.call_resize.proofs.shorter_slots.cut_slot.Tie as tie
+use Rattle.call_reshape.proofs.shorter_slots.cut_slot.Statement.{statement}
+use Rattle.call_reshape.proofs.shorter_slots.cut_slot.Tie as tie
 
 plan-slot-requires : tie.Need-plan-slot-requires
 plan-slot-requires c κs = (search needs, (search needs, (search needs, (search needs, search needs))))

@@ -7,10 +7,10 @@ use Rattle.laws_resize.specs.growth.HeldAfter.{usableBelow}
 use Rattle.plan_slot.specs.change.Turns.{Turning}
 use Rattle.plan_slot.proofs.change.SlotLoop.{turning-start, pool-turned, records-turned}
 use Rattle.plan_longer.specs.Plans.{growPlans}
-use Rattle.call_resize.proofs.longer_slots.TurnsAsPlanned.{below-start, here-now, line-now, grow-turn, below-turn}
+use Rattle.call_reshape.proofs.longer_slots.TurnsAsPlanned.{below-start, here-now, line-now, grow-turn, below-turn}
 use borrow.Author.Needs.{needs}
-use Rattle.call_resize.proofs.longer_slots.grow_all.Statement.{statement}
-use Rattle.call_resize.proofs.longer_slots.grow_all.Tie as tie
+use Rattle.call_reshape.proofs.longer_slots.grow_all.Statement.{statement}
+use Rattle.call_reshape.proofs.longer_slots.grow_all.Tie as tie
 
 abbrev Inv-loop : tie.InvT-loop
 Inv-loop e g t pool₀ records₀ free heights firsts kept payload₀ scratch₀ n root i₀ below₀ pool records payload scratch i below =
