@@ -24,7 +24,7 @@ impl Command {
 const FILE: &str = "[FILE|-]";
 
 #[rustfmt::skip]
-pub const COMMANDS: [Command; 13] = [
+pub const COMMANDS: &[Command] = &[
     Command { name: "init", words: &[], options: &["--slots"], flags: &["--force"],
         short: "make an empty store",
         long: "\

@@ -1,7 +1,7 @@
 //! A full disk and a read-only one, made of memory in a mount space of the
 //! test's own. Without the right to make one, these tests are skipped.
 
-use crate::support::{shell_function, there_is, Folder};
+use crate::support::{shell_function, skipped, there_is, Folder};
 use std::process::{Command, Output};
 
 /// Runs a script with `$d`, a folder to mount a disk on, and `t`, the program.
@@ -17,7 +17,7 @@ fn apart(folder: &Folder, script: &str) -> Option<Output> {
     let tried =
         able && run(r#"mount -t tmpfs t "$d""#).map_or(false, |tried| tried.status.success());
     if !tried {
-        println!("skipped: no disk can be mounted here");
+        skipped("no disk can be mounted here");
         return None;
     }
     Some(run(script).unwrap())

@@ -2,7 +2,7 @@
 //! file. The steps are found and broken by strace; without it, or without the
 //! right to use it, these tests are skipped.
 
-use crate::support::{emulator, hundred, Folder, PROGRAM};
+use crate::support::{emulator, hundred, skipped, Folder, PROGRAM};
 use std::process::{Command, Output};
 
 /// The calls of the kernel that a change makes on files, by strace's names, and
@@ -32,7 +32,7 @@ fn prepared(name: &str) -> Option<Folder> {
     let tried = Command::new("strace").args(["-qq", "-o", "/dev/null", "true"]).output();
     let able = tried.map_or(false, |output| output.status.success());
     if !able || !emulator().is_empty() {
-        println!("skipped: no strace, or an emulator");
+        skipped("no strace, or an emulator");
         return None;
     }
     Some(folder)

@@ -1,6 +1,6 @@
 //! Files that are missing, read-only, or no files.
 
-use crate::support::{Folder, CHANGING, READING};
+use crate::support::{skipped, Folder, CHANGING, READING};
 use std::fs;
 
 #[test]
@@ -75,7 +75,7 @@ fn a_pipe_is_no_file() {
     let folder = Folder::with_blob("fifo");
     let made = std::process::Command::new("mkfifo").arg(folder.file("p")).status();
     if !made.map_or(false, |status| status.success()) {
-        return println!("skipped: no mkfifo");
+        return skipped("no mkfifo");
     }
     for command in READING.iter().chain(&CHANGING) {
         folder.run(&[*command, &["--records", "p"]].concat()).fails(74, "p is not a plain file");

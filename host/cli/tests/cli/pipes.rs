@@ -1,6 +1,6 @@
 //! Standard input and output between commands.
 
-use crate::support::{hundred, shell_function, there_is, Folder};
+use crate::support::{hundred, shell_function, skipped, there_is, Folder};
 use std::process::Command;
 
 /// Runs a line in a shell that fails if any command of a pipe fails.
@@ -15,7 +15,7 @@ fn shell(folder: &Folder, line: &str) -> (i32, Vec<u8>, String) {
 #[test]
 fn from_a_store_into_the_same() {
     if !there_is("bash") {
-        return println!("skipped: no bash");
+        return skipped("no bash");
     }
     let folder = Folder::with_blob("pipe_same");
     let line = "for i in 1 2 3 4 5; do t get 0 | t put 0 - || exit; done; t get 0";
@@ -26,7 +26,7 @@ fn from_a_store_into_the_same() {
 #[test]
 fn a_reader_that_stops_is_no_failure() {
     if !there_is("bash") {
-        return println!("skipped: no bash");
+        return skipped("no bash");
     }
     let folder = Folder::with_store("pipe_stop", 1024);
     for command in ["draw", "draw --json", "--help", "demo"] {
@@ -39,7 +39,7 @@ fn a_reader_that_stops_is_no_failure() {
 fn output_that_cannot_be_written() {
     let folder = Folder::with_blob("pipe_full");
     if !std::path::Path::new("/dev/full").exists() || !there_is("bash") {
-        return println!("skipped: no /dev/full");
+        return skipped("no /dev/full");
     }
     let (status, _, err) = shell(&folder, "t get 0 > /dev/full");
     assert_eq!(status, 74);

@@ -162,3 +162,14 @@ pub fn there_is(program: &str) -> bool {
     let found = Command::new(program).arg("--version").stdout(Stdio::null()).status();
     found.map_or(false, |status| status.success())
 }
+
+/// Says that a test cannot run here, and why. The line also goes to the file that
+/// `TJORNSAKI_SKIPPED` names, so that whoever runs the tests can count them.
+pub fn skipped(why: &str) {
+    println!("skipped: {why}");
+    if let Some(list) = std::env::var_os("TJORNSAKI_SKIPPED") {
+        let file = fs::OpenOptions::new().append(true).create(true).open(list);
+        writeln!(file.unwrap(), "{}: {why}", std::thread::current().name().unwrap_or("a test"))
+            .unwrap();
+    }
+}
