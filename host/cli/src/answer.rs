@@ -1,8 +1,11 @@
 //! What a command has to say, for people and for machines.
 
-use crate::failure::Failure;
+use crate::failure::{Failure, BROKEN};
 use crate::json::{success, Json};
+use crate::kernel::output_was_closed;
+use std::fs::File;
 use std::io::Write;
+use std::os::unix::io::AsFd;
 
 /// The answer of a command that was not stopped.
 pub struct Answer {
@@ -45,9 +48,13 @@ impl Answer {
     }
 }
 
-/// Writes to standard output to the last byte.
+/// Writes to standard output to the last byte. It is written to as a file: Rust's
+/// own standard output says that all went well where it is closed.
 pub fn print_bytes(bytes: &[u8]) -> Result<(), Failure> {
-    let mut out = std::io::stdout().lock();
-    let done = out.write_all(bytes).and_then(|()| out.flush());
+    if output_was_closed() {
+        return Err(Failure::Other(BROKEN, "standard output is closed".into()));
+    }
+    let done = std::io::stdout().as_fd().try_clone_to_owned();
+    let done = done.map(File::from).and_then(|mut out| out.write_all(bytes));
     done.map_err(|error| Failure::output(&error))
 }

@@ -7,6 +7,8 @@ use tjornsaki::Refusal;
 
 /// The words of the command line are wrong.
 pub const USAGE: u8 = 64;
+/// There is no input where some is needed.
+pub const NO_INPUT: u8 = 65;
 /// A file or a folder is missing.
 pub const MISSING: u8 = 66;
 /// The program is at fault.

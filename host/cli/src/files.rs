@@ -1,27 +1,52 @@
-//! Steps on single files: read one whole, put a new one beside an old one, and
-//! let it take the old one's place.
+//! Steps on single files: names, reading one whole, and what a file must be.
 
 use crate::failure::{Failure, BROKEN, DENIED};
+use crate::kernel;
+use crate::replace::New;
 use std::ffi::OsString;
-use std::fs::{self, File, OpenOptions};
+use std::fs::{self, File, Metadata, OpenOptions, Permissions};
 use std::io::{self, Read, Write};
+use std::os::unix::ffi::OsStrExt;
+use std::os::unix::fs::{MetadataExt, PermissionsExt};
 use std::path::{Path, PathBuf};
 
 /// No file of a store, and no input that fits into one, is longer. What is
 /// longer is read up to one byte more, which the store then refuses.
 pub const MOST_BYTES: u64 = (tjornsaki::BLOCK_BYTES * tjornsaki::MOST_SLOTS) as u64;
 
+/// Every name that the command line makes for itself has this in it.
+pub const OWN: &str = ".tj-";
+
 /// Reads a file, up to one byte more than fits into a store.
 pub fn read(path: &Path) -> Result<Vec<u8>, Failure> {
+    read_most(path, MOST_BYTES)
+}
+
+/// The same where the file may be missing.
+pub fn read_if_there(path: &Path, most: u64) -> Result<Option<Vec<u8>>, Failure> {
+    if is_there(path)? {
+        read_most(path, most).map(Some)
+    } else {
+        Ok(None)
+    }
+}
+
+fn read_most(path: &Path, most: u64) -> Result<Vec<u8>, Failure> {
     let failed = |error| Failure::file("read", path, &error);
     let file = File::open(path).map_err(failed)?;
-    up_to_most(file).map_err(failed)
+    let size = file.metadata().map_err(failed)?.len();
+    up_to(file, most, size).map_err(failed)
 }
 
 /// Everything of an input, up to one byte more than fits into a store.
 pub fn up_to_most(input: impl Read) -> io::Result<Vec<u8>> {
-    let mut bytes = Vec::new();
-    input.take(MOST_BYTES + 1).read_to_end(&mut bytes)?;
+    up_to(input, MOST_BYTES, 0)
+}
+
+/// The same for any most; so many bytes are expected.
+fn up_to(input: impl Read, most: u64, expected: u64) -> io::Result<Vec<u8>> {
+    let mut bytes = Vec::with_capacity(expected.min(most) as usize + 1);
+    input.take(most + 1).read_to_end(&mut bytes)?;
     Ok(bytes)
 }
 
@@ -54,6 +79,21 @@ pub fn same(one: &Path, other: &Path) -> bool {
     one == other || resolved(one) == resolved(other)
 }
 
+/// The path with links followed; fails if the command line could make a file of
+/// that name, or of the one given, for itself.
+pub fn resolved_other(path: &Path) -> Result<PathBuf, Failure> {
+    let own = |path: &Path| {
+        let name = path.file_name().map_or(&b""[..], OsStrExt::as_bytes);
+        name.windows(OWN.len()).any(|part| part == OWN.as_bytes())
+    };
+    let real = resolved(path);
+    if own(path) || own(&real) {
+        let words = "names with `.tj-` in them are the store's own, for its lock and its log";
+        return Err(Failure::usage(format!("{} belongs to the store: {words}", path.display())));
+    }
+    Ok(real)
+}
+
 /// Whether there is something of this name.
 pub fn is_there(path: &Path) -> Result<bool, Failure> {
     match fs::metadata(path) {
@@ -65,20 +105,22 @@ pub fn is_there(path: &Path) -> Result<bool, Failure> {
 
 /// Fails if there is something else than a plain file, a pipe say.
 pub fn check_plain(path: &Path) -> Result<(), Failure> {
-    match fs::metadata(path) {
-        Ok(about) if !about.is_file() => {
-            Err(Failure::Other(BROKEN, format!("{} is not a plain file", path.display())))
-        }
-        _ => Ok(()),
+    fs::metadata(path).map_or(Ok(()), |about| check_is_plain(path, &about))
+}
+
+fn check_is_plain(path: &Path, about: &Metadata) -> Result<(), Failure> {
+    if about.is_file() {
+        return Ok(());
     }
+    Err(Failure::Other(BROKEN, format!("{} is not a plain file", path.display())))
 }
 
 /// Fails unless the file is a plain one that may be written. A new file could
 /// take the place of a read-only one; that is not what its owner wants.
 pub fn check_writable(path: &Path) -> Result<(), Failure> {
     let failed = |error| Failure::file("write", path, &error);
-    check_plain(path)?;
     let about = fs::metadata(path).map_err(failed)?;
+    check_is_plain(path, &about)?;
     if about.permissions().readonly() {
         return Err(Failure::Other(DENIED, format!("{} is read-only", path.display())));
     }
@@ -86,23 +128,24 @@ pub fn check_writable(path: &Path) -> Result<(), Failure> {
     Ok(())
 }
 
-/// Writes a whole new file to the disk, with the permissions of `like` where
-/// that exists. Whatever had the name is taken away first, so that a link laid
-/// there is not followed.
-pub fn stage(path: &Path, bytes: &[u8], like: &Path) -> Result<(), Failure> {
-    let failed = |error| Failure::file("write", path, &error);
-    remove(path)?;
-    let mut file = OpenOptions::new().write(true).create_new(true).open(path).map_err(failed)?;
-    if let Ok(about) = fs::metadata(like) {
-        file.set_permissions(about.permissions()).map_err(failed)?;
+/// Gives a new file the owner, the group and the mode of another, if that is
+/// there. Where the owner cannot be kept, the group and the mode are, and the
+/// failure is told; where the group cannot, it gets no rights.
+pub fn keep_owner(file: &File, like: &Path) -> io::Result<()> {
+    const AS_IT_IS: u32 = u32::MAX;
+    let wanted = match fs::metadata(like) {
+        Ok(wanted) => wanted,
+        Err(_) => return Ok(()),
+    };
+    let found = file.metadata()?;
+    let mut kept = Ok(());
+    if (found.uid(), found.gid()) != (wanted.uid(), wanted.gid()) {
+        kept = kernel::give(file, wanted.uid(), wanted.gid());
     }
-    file.write_all(bytes).and_then(|()| file.sync_all()).map_err(failed)?;
-    sync_folder(path)
-}
-
-/// Lets a staged file take the place of another at once.
-pub fn put_in_place(staged: &Path, path: &Path) -> Result<(), Failure> {
-    fs::rename(staged, path).map_err(|error| Failure::file("replace", path, &error))
+    let group = kept.is_ok() || kernel::give(file, AS_IT_IS, wanted.gid()).is_ok();
+    let mode = wanted.mode() & if group { 0o7777 } else { 0o5707 };
+    file.set_permissions(Permissions::from_mode(mode))?;
+    kept
 }
 
 /// Waits until the disk has the names in the folder of this path.
@@ -127,10 +170,11 @@ pub fn remove(path: &Path) -> Result<(), Failure> {
     }
 }
 
-/// Writes an output file: as a whole or not at all, unless it is a device or
-/// a pipe.
+/// Writes an output file: as a whole or not at all, unless it is a device, a
+/// pipe, or a file that belongs to another user.
 pub fn save(path: &Path, bytes: &[u8]) -> Result<(), Failure> {
     let failed = |error| Failure::file("write", path, &error);
+    let real = resolved_other(path)?;
     match fs::metadata(path) {
         Ok(about) if !about.is_file() => {
             let mut file = OpenOptions::new().write(true).open(path).map_err(failed)?;
@@ -139,11 +183,5 @@ pub fn save(path: &Path, bytes: &[u8]) -> Result<(), Failure> {
         Ok(_) => check_writable(path)?,
         Err(_) => (),
     }
-    let path = resolved(path);
-    let staged = beside(&path, ".tj-new");
-    let done = stage(&staged, bytes, &path).and_then(|()| put_in_place(&staged, &path));
-    if done.is_err() {
-        let _ = remove(&staged);
-    }
-    done
+    New::unique(&real)?.put(bytes)
 }

@@ -19,20 +19,33 @@ impl Command {
     pub fn changes(&self) -> bool {
         ["init", "create", "put", "write", "resize", "delete"].contains(&self.name)
     }
+
+    /// Whether its output is bytes of a blob: if nobody reads them, it failed.
+    pub fn delivers(&self) -> bool {
+        ["get", "show"].contains(&self.name)
+    }
 }
 
 const FILE: &str = "[FILE|-]";
 
 #[rustfmt::skip]
 pub const COMMANDS: &[Command] = &[
-    Command { name: "init", words: &[], options: &["--slots"], flags: &["--force"],
+    Command { name: "init", words: &[], options: &["--slots"],
+        flags: &["--force", "--forget-history"],
         short: "make an empty store",
         long: "\
 Makes a pool and records with N slots, all free.
 
-  --slots N   how many slots, 1 to 1024 (16). A blob of up to 48 bytes takes
-              one; one of 100 bytes four: three for its bytes, one above them.
-  --force     replace files that exist; what they held is lost" },
+  --slots N           how many slots, 1 to 1024 (16). A blob of up to 48 bytes
+                      takes one; one of 100 bytes four: three for its bytes,
+                      one above them.
+  --force --forget-history
+                      replace files that exist; what they held is lost. All
+                      versions start again at 0: a pool of the old store, kept
+                      by somebody, may then pass as a pool of the new one. If
+                      the records are lost, bring them back from a copy; if
+                      there is none, make the new store elsewhere and keep the
+                      old pool until you know what it held." },
     Command { name: "create", words: &[], options: &[], flags: &[],
         short: "make an empty blob, and print its number",
         long: "\
@@ -47,11 +60,14 @@ refusal; the exit status is that of the first one." },
     Command { name: "length", words: &["ROOT"], options: &[], flags: &[],
         short: "print a blob's length",
         long: "Prints the blob's length in bytes." },
-    Command { name: "put", words: &["ROOT", FILE], options: &[], flags: &[],
+    Command { name: "put", words: &["ROOT", FILE], options: &[], flags: &["--empty"],
         short: "make a blob's bytes those of a file",
         long: "\
 Makes the blob exactly the bytes of FILE, or of standard input: it is resized
-and then written, both or nothing." },
+and then written, both or nothing. A standard input without bytes is refused: it
+may be that of a command that failed. A FILE may be empty.
+
+  --empty   make the blob empty; nothing is read" },
     Command { name: "get", words: &["ROOT", FILE], options: &["--offset", "--size"], flags: &[],
         short: "write a blob's bytes to a file",
         long: "\
@@ -66,7 +82,8 @@ With --json and no FILE the bytes stand in the answer, in hexadecimal." },
         short: "put bytes into a blob",
         long: "\
 Puts the bytes of FILE, or of standard input, into the blob from OFFSET on.
-They must lie inside its length: write never lengthens a blob, resize does." },
+They must lie inside its length: write never lengthens a blob, resize does. A
+standard input without bytes is refused." },
     Command { name: "resize", words: &["ROOT", "LENGTH"], options: &[], flags: &[],
         short: "make a blob longer or shorter",
         long: "Makes the blob LENGTH bytes long, with zeros at its end, or cuts it." },
@@ -101,8 +118,8 @@ moved, or deleted, with a store in memory. It touches no store of yours.
 ];
 
 const USAGE: &str = "\
-tjornsaki: keeps blobs in a pool of small blocks, and notices when a block is
-damaged, moved, or old
+tjornsaki: keeps blobs in a pool of small blocks, and notices when one of its
+own blocks comes back old, moved, or after it was deleted
 
 Usage: tjornsaki COMMAND [WORDS] [OPTIONS]
 
@@ -113,21 +130,30 @@ const EVERYWHERE: &str = "
 Options of every command:
   --pool FILE      the pool (TJORNSAKI_POOL, else store.pool)
   --records FILE   the records (TJORNSAKI_RECORDS, else store.records)
-  --wait SECONDS   wait so long for another command to finish (0)
+  --wait SECONDS   wait so long for another command to finish (1)
   --json           answer with one JSON object, also when something fails
   --help           tell more about a command
 ";
 
 const MORE: &str = "
-The pool may lie anywhere, on rented storage too: every block is checked. The
-records are what it is checked against: keep them where nobody else writes.
-If both are put back to an old state together, no one can tell.
+What it is good for:
+  The pool may lie on rented storage. Every block that a command reads is held
+  against the records: its slot, its version, and its place in the blob. So a
+  block of the store's own past, old, moved or brought back, never passes.
+What it does not notice:
+  It keeps no checksum of a block's bytes. Payload that was forged or flipped
+  under a right head passes, and so does the pool of another store that is at
+  the same versions: sign or encrypt the pool where somebody might do that.
+  If pool and records are put back together, no one can tell: keep the records
+  where nobody else writes.
 
-A changing command replaces both files or neither. It writes new ones beside
-them (.tj-new), and replaces the records, then the pool. If it fails, both stay
-as they were. If the power fails, the next command finds the store as before or
-as after the change. While it runs, the store is locked (.tj-lock stays; it is
-empty).
+A changing command first writes the new records and the new pool into one file
+beside the records (.tj-log). With that it is made; no byte of it is on the
+pool's side before. Then it replaces pool and records, and the log goes. If it
+fails or the power does, the store is as before the log was there, or as the
+log says: commands read from it, and the next change carries it on. Owner and
+mode of the files are kept. While a command runs, the store is locked (.tj-lock
+stays; it is empty). Names with .tj- in them are the store's own.
 
 Exit status:
   0         done
@@ -136,6 +162,7 @@ Exit status:
             5 moved           6 rolled back     7 ahead           8 wrong shape
             9 reintroduced   10 out of range   11 no room        12 worn
   64        the command line is wrong
+  65        standard input has no bytes
   66        a file or a folder is missing
   70        a fault of this program
   73        a file exists that would be replaced

@@ -1,65 +1,80 @@
 //! The lock on a store: the kernel's lock on a small file beside the records.
 //!
 //! The kernel lets go of it when the command ends, however it ends, so none is
-//! ever left behind. The file itself stays: taking it away would let two
-//! commands lock two different files. This is the only module of the command
-//! line with unsafe code, a call of the C function `flock`; the standard
-//! library has it only in newer compilers.
-#![allow(unsafe_code)]
+//! ever left behind. The file itself stays, but for an `init` that fails. Who
+//! gets the lock looks whether the file still has its name, and if not begins
+//! again, so that two commands never hold locks on two files.
 
 use crate::failure::{Failure, LOCKED};
-use std::fs::{File, OpenOptions};
+use crate::files::{keep_owner, remove};
+use crate::kernel::{self, Hold};
+use std::fs::{self, File, OpenOptions};
 use std::io;
-use std::os::unix::io::AsRawFd;
-use std::path::Path;
+use std::os::unix::fs::MetadataExt;
+use std::path::{Path, PathBuf};
 use std::thread::sleep;
 use std::time::{Duration, Instant};
-
-extern "C" {
-    fn flock(file: i32, operation: i32) -> i32;
-}
-
-const SHARED: i32 = 1;
-const ALONE: i32 = 2;
-const AT_ONCE: i32 = 4;
 
 /// Between two tries.
 const PAUSE: Duration = Duration::from_millis(10);
 
 /// Holds the store until it is dropped.
 pub struct Lock {
-    _file: File,
+    file: File,
+    path: PathBuf,
+    /// Whether the file was not there before.
+    made: bool,
 }
 
-/// The lock of a command that changes the store: nobody else has any. A lock
-/// file that another user made can be locked too.
-pub fn alone(path: &Path, wait: Duration) -> Result<Lock, Failure> {
-    let mut options = OpenOptions::new();
-    let file = options.read(true).append(true).create(true).open(path);
-    let file = file.or_else(|error| File::open(path).map_err(|_| error));
-    take(file.map_err(|error| Failure::file("open the lock", path, &error))?, ALONE, path, wait)
+impl Lock {
+    /// Takes the file away again if this command made it.
+    pub fn take_away(self) {
+        if self.made {
+            let _ = remove(&self.path);
+        }
+    }
+
+    /// Whether the locked file is the one that has the name.
+    fn has_its_name(&self) -> bool {
+        match (self.file.metadata(), fs::metadata(&self.path)) {
+            (Ok(held), Ok(named)) => (held.dev(), held.ino()) == (named.dev(), named.ino()),
+            _ => false,
+        }
+    }
+}
+
+/// The lock of a command that changes the store: nobody else has any. The file
+/// belongs to whom the records belong.
+pub fn alone(path: &Path, records: &Path, wait: Duration) -> Result<Lock, Failure> {
+    take(path, records, Hold::Alone, wait)?
+        .map_err(|error| Failure::file("open the lock", path, &error))
 }
 
 /// The lock of a command that only reads. Where its file is missing and cannot
 /// be made, as on a read-only disk, the command reads without.
-pub fn shared(path: &Path, wait: Duration) -> Result<Option<Lock>, Failure> {
-    let made = |_| OpenOptions::new().append(true).create(true).open(path);
-    match File::open(path).or_else(made) {
-        Ok(file) => take(file, SHARED, path, wait).map(Some),
-        Err(_) => Ok(None),
-    }
+pub fn shared(path: &Path, records: &Path, wait: Duration) -> Result<Option<Lock>, Failure> {
+    take(path, records, Hold::Shared, wait).map(Result::ok)
 }
 
-fn take(file: File, how: i32, path: &Path, wait: Duration) -> Result<Lock, Failure> {
+/// Tries until the time is over. The inner failure is that of opening the file.
+fn take(
+    path: &Path,
+    records: &Path,
+    hold: Hold,
+    wait: Duration,
+) -> Result<io::Result<Lock>, Failure> {
     let start = Instant::now();
     loop {
-        // The file is open for as long as the call lasts.
-        if unsafe { flock(file.as_raw_fd(), how | AT_ONCE) } == 0 {
-            return Ok(Lock { _file: file });
-        }
-        let error = io::Error::last_os_error();
-        if error.kind() != io::ErrorKind::WouldBlock {
-            return Err(Failure::file("lock", path, &error));
+        let lock = match open(path, records) {
+            Ok(lock) => lock,
+            Err(error) => return Ok(Err(error)),
+        };
+        match kernel::lock(&lock.file, hold) {
+            Ok(()) if lock.has_its_name() => return Ok(Ok(lock)),
+            Err(error) if error.kind() != io::ErrorKind::WouldBlock => {
+                return Err(Failure::file("lock", path, &error));
+            }
+            _ => (),
         }
         if start.elapsed() >= wait {
             let words = format!("the store is locked by another command ({})", path.display());
@@ -67,4 +82,17 @@ fn take(file: File, how: i32, path: &Path, wait: Duration) -> Result<Lock, Failu
         }
         sleep(PAUSE);
     }
+}
+
+/// Opens the file, and makes it if need be. One that another user made and that
+/// can only be read can be locked too.
+fn open(path: &Path, records: &Path) -> io::Result<Lock> {
+    let open = |options: &mut OpenOptions| options.read(true).append(true).open(path);
+    let lock = |file, made| Lock { file, path: path.to_path_buf(), made };
+    if let Ok(file) = open(OpenOptions::new().create_new(true)) {
+        let _ = keep_owner(&file, records);
+        return Ok(lock(file, true));
+    }
+    let file = open(OpenOptions::new().create(true));
+    file.or_else(|error| File::open(path).map_err(|_| error)).map(|file| lock(file, false))
 }

@@ -9,9 +9,12 @@ mod failure;
 mod files;
 mod help;
 mod json;
+mod kernel;
 mod layout;
 mod lock;
+mod log;
 mod pair;
+mod replace;
 mod words;
 
 use failure::Failure;
@@ -49,6 +52,9 @@ fn run(args: &[OsString]) -> Result<u8, Told> {
     let told = |failure| (Some(name), failure);
     let answer = commands::run(&words).map_err(told)?;
     let printed = answer.print(name, words.flag("--json"));
+    if matches!(printed, Err(Failure::Unread)) && words.command.delivers() {
+        return Ok(failure::BROKEN);
+    }
     let made = |failure: Failure| match words.command.changes() {
         true => failure.with("the change is made"),
         false => failure,

@@ -1,36 +1,33 @@
 //! The two files of a store, changed together.
 //!
-//! A change is first written whole into two new files beside the old ones,
-//! `POOL.tj-new` and `RECORDS.tj-new`. Then the new records take the place of
-//! the old ones, and then the new pool does. The first of the two renames is
-//! the moment of the change; each step waits until the disk has the one before.
+//! A change is first written whole into one new file beside the records: new
+//! records and new pool, the log. It gets its name `RECORDS.tj-log` once the disk
+//! has its bytes. That is the moment of the change.
 //!
-//! * Before that moment any failure, a full disk say, leaves both files as
-//!   they were, byte for byte, and takes the new ones away.
-//! * If the second rename fails, the old records are put back.
-//! * If the power fails, the next command finds new records and an old pool
-//!   with the new pool beside it. The records are trusted, so the store's own
-//!   audit decides: if the pool does not pass it and the pool beside does,
-//!   the pool beside is the one. Reading commands then read that one, changing
-//!   commands put it in place first. So a command sees the store from before
-//!   or from after a change, never a mixture.
+//! * Before it, a command that fails or is stopped has changed nothing, and no
+//!   byte of the change has left the side of the records, which is trusted. So
+//!   the next change may use the same versions again.
+//! * Once the disk has the name, the change is sure to happen. It is only ever
+//!   carried forward, never back: the new pool takes the old one's place, then
+//!   the new records, then the log goes.
+//! * Commands that come while a log is there read from it. A changing command
+//!   makes its change on what the log holds; its own log takes the place of the
+//!   one before, and it carries both.
 //!
-//! A pool beside that does not pass is left from a change that did not happen
-//! and is not looked at. Whoever can lay files beside the pool can do no more
-//! than whoever can change the pool: what is taken has passed the audit.
+//! A log counts for the pool that it was made on, and is carried to no other
+//! file: another pool is judged by the records of the log, and not changed.
 
 use crate::failure::{Failure, EXISTS, MISSING};
 use crate::files::{
-    beside, check_plain, check_writable, is_there, put_in_place, read, remove, resolved, same,
-    save, stage, sync_folder, MOST_BYTES,
+    beside, check_plain, check_writable, is_there, read, read_if_there, remove, resolved_other,
+    same, save, sync_folder, MOST_BYTES,
 };
 use crate::lock::{self, Lock};
+use crate::log::{Log, MOST_LOG};
+use crate::replace::New;
 use std::path::{Path, PathBuf};
 use std::time::Duration;
 use tjornsaki::Refusal;
-
-const NEW: &str = ".tj-new";
-const LOCK: &str = ".tj-lock";
 
 /// The bytes of a store.
 #[derive(Clone, PartialEq, Eq)]
@@ -43,21 +40,32 @@ pub struct Pair {
 pub struct Place {
     pool: PathBuf,
     records: PathBuf,
+    log: PathBuf,
+    lock: PathBuf,
     wait: Duration,
+}
+
+/// A store as found.
+struct Found {
+    pair: Pair,
+    /// A change that waits to be carried on.
+    log: Option<Log>,
 }
 
 impl Place {
     pub fn new(pool: &Path, records: &Path, wait: Duration) -> Result<Place, Failure> {
-        if same(pool, records) {
+        let (pool, records) = (resolved_other(pool)?, resolved_other(records)?);
+        if pool == records {
             return Err(Failure::usage("the pool and the records must be two files"));
         }
-        Ok(Place { pool: resolved(pool), records: resolved(records), wait })
+        let (log, lock) = (beside(&records, ".tj-log"), beside(&records, ".tj-lock"));
+        Ok(Place { pool, records, log, lock, wait })
     }
 
     /// The store as it is now.
     pub fn load(&self) -> Result<Pair, Failure> {
         self.check_present()?;
-        let _lock = lock::shared(&beside(&self.records, LOCK), self.wait)?;
+        let _lock = lock::shared(&self.lock, &self.records, self.wait)?;
         self.find().map(|found| found.pair)
     }
 
@@ -69,39 +77,33 @@ impl Place {
         self.check_present()?;
         let _lock = self.lock_alone()?;
         let found = self.find()?;
-        check_writable(&self.records)?;
-        if !found.beside {
-            check_writable(&self.pool)?;
-        }
+        self.check_changeable(&found)?;
         let mut pair = found.pair.clone();
         let value = call(&mut pair)?;
-        if found.beside {
-            put_in_place(&beside(&self.pool, NEW), &self.pool)?;
-            sync_folder(&self.pool)?;
-        }
         if pair != found.pair {
-            self.replace(Some(&found.pair.records), &pair)?;
+            let file = if found.log.is_none() { Some(found.pair.pool) } else { self.pool_file() };
+            self.replace(pair, file)?;
+        } else if found.log.is_some() {
+            let (pool, records) = self.begin(&pair)?;
+            self.carry(pool, records, &pair)?;
         }
         Ok(value)
     }
 
     /// Makes both files anew; files that exist are only replaced by `force`.
-    pub fn make(&self, pair: &Pair, force: bool) -> Result<(), Failure> {
-        let _lock = self.lock_alone()?;
-        for path in [&self.pool, &self.records] {
-            if is_there(path)? {
-                check_replaceable(path, force)?;
-            }
+    pub fn make(&self, pair: Pair, force: bool) -> Result<(), Failure> {
+        let lock = self.lock_alone()?;
+        let made =
+            self.check_replaceable(force).and_then(|()| self.replace(pair, self.pool_file()));
+        if made.is_err() && !self.records.exists() && !self.log.exists() {
+            lock.take_away();
         }
-        let old = if is_there(&self.records)? { Some(read(&self.records)?) } else { None };
-        self.replace(old.as_deref(), pair)
+        made
     }
 
     /// Writes an output file, which must not be one of the store's own.
     pub fn save(&self, path: &Path, bytes: &[u8]) -> Result<(), Failure> {
-        let (pool, records) = (&self.pool, &self.records);
-        let others = [beside(records, LOCK), beside(records, NEW), beside(pool, NEW)];
-        if others.iter().chain([pool, records]).any(|own| same(own, path)) {
+        if [&self.pool, &self.records].iter().any(|own| same(own, path)) {
             let words = format!("{} belongs to the store", path.display());
             return Err(Failure::usage(words));
         }
@@ -109,88 +111,132 @@ impl Place {
     }
 
     fn lock_alone(&self) -> Result<Lock, Failure> {
-        lock::alone(&beside(&self.records, LOCK), self.wait)
+        lock::alone(&self.lock, &self.records, self.wait)
     }
 
     /// Fails if a file is missing or is no file, before a lock file is made.
     fn check_present(&self) -> Result<(), Failure> {
-        let pool = is_there(&self.pool)? || is_there(&beside(&self.pool, NEW))?;
-        for (there, path) in [(is_there(&self.records)?, &self.records), (pool, &self.pool)] {
-            if !there {
-                let words =
-                    format!("{} is missing; `tjornsaki init` makes a store", path.display());
-                return Err(Failure::Other(MISSING, words));
+        if is_there(&self.log)? {
+            return check_plain(&self.log);
+        }
+        let (pool, records) = (is_there(&self.pool)?, is_there(&self.records)?);
+        if !pool || !records {
+            return Err(self.missing(pool, records));
+        }
+        check_plain(&self.records)?;
+        check_plain(&self.pool)
+    }
+
+    /// What is missing, and what to do: only where both are is it a new store.
+    fn missing(&self, pool: bool, records: bool) -> Failure {
+        let (pool_name, records_name) = (self.pool.display(), self.records.display());
+        let words = match (pool, records) {
+            (true, false) => format!(
+                "{records_name} is missing, and without its records nothing in {pool_name} can be \
+                 checked: name them with --records, or bring them back from a copy"
+            ),
+            (false, true) => {
+                format!("{pool_name} is missing: name it with --pool, or bring it back from a copy")
             }
-            check_plain(path)?;
+            _ => format!("{records_name} is missing; `tjornsaki init` makes a store"),
+        };
+        Failure::Other(MISSING, words)
+    }
+
+    /// The store by its log, if one waits, else by both files. A log counts once
+    /// the disk has its name.
+    fn find(&self) -> Result<Found, Failure> {
+        let log = match read_if_there(&self.log, MOST_LOG)? {
+            Some(bytes) => Log::parse(&bytes, &self.log)?,
+            None => {
+                let (records, pool) = (read(&self.records)?, read(&self.pool)?);
+                return Ok(Found { pair: Pair { pool, records }, log: None });
+            }
+        };
+        sync_folder(&self.log)?;
+        let pair = if self.is_of(&log) {
+            log.pair.clone()
+        } else {
+            Pair { pool: read(&self.pool)?, records: log.pair.records.clone() }
+        };
+        Ok(Found { pair, log: Some(log) })
+    }
+
+    fn is_of(&self, log: &Log) -> bool {
+        log.is_of(&self.pool, || self.pool_file())
+    }
+
+    /// Fails if a file may not be written, or a log waits for another pool.
+    fn check_changeable(&self, found: &Found) -> Result<(), Failure> {
+        for path in [&self.records, &self.pool] {
+            if found.log.is_none() || is_there(path)? {
+                check_writable(path)?;
+            }
+        }
+        match &found.log {
+            Some(log) if !self.is_of(log) => {
+                let (log_name, pool) = (self.log.display(), log.pool.display());
+                let words = format!(
+                    "{log_name} holds a change of the pool {pool} that has to be carried there \
+                     first: let a changing command name that pool"
+                );
+                Err(Failure::Other(EXISTS, words))
+            }
+            _ => Ok(()),
+        }
+    }
+
+    /// Fails if something is there that `init` is not to replace, or that is too
+    /// long for a part of a store.
+    fn check_replaceable(&self, force: bool) -> Result<(), Failure> {
+        for path in [&self.pool, &self.records, &self.log] {
+            let name = path.display();
+            if !is_there(path)? {
+                continue;
+            }
+            if !force {
+                let words = "`tjornsaki init --help` says what replacing it loses";
+                return Err(Failure::Other(EXISTS, format!("{name} exists; {words}")));
+            }
+            check_writable(path)?;
+            if *path != self.log && read(path)?.len() as u64 > MOST_BYTES {
+                let words = format!("{name} is too long for a part of a store");
+                return Err(Failure::Other(EXISTS, words));
+            }
         }
         Ok(())
     }
 
-    /// Reads both files, and decides which pool is the one.
-    fn find(&self) -> Result<Found, Failure> {
-        let records = read(&self.records)?;
-        let new = beside(&self.pool, NEW);
-        if new.is_file() {
-            let staged = read(&new)?;
-            let pool = if is_there(&self.pool)? { read(&self.pool)? } else { Vec::new() };
-            let passes = |pool: &[u8]| tjornsaki::audit(pool, &records).is_ok();
-            if !passes(&pool) && passes(&staged) {
-                return Ok(Found { pair: Pair { pool: staged, records }, beside: true });
-            }
-        }
-        let pool = read(&self.pool)?;
-        Ok(Found { pair: Pair { pool, records }, beside: false })
+    /// What the pool's file holds now, if it can be read.
+    fn pool_file(&self) -> Option<Vec<u8>> {
+        read(&self.pool).ok()
     }
 
-    /// Both files at once, as the head of this file tells.
-    fn replace(&self, old_records: Option<&[u8]>, pair: &Pair) -> Result<(), Failure> {
-        let (pool, records) = (beside(&self.pool, NEW), beside(&self.records, NEW));
-        let staged = stage(&pool, &pair.pool, &self.pool)
-            .and_then(|()| stage(&records, &pair.records, &self.records))
-            .and_then(|()| put_in_place(&records, &self.records));
-        if staged.is_err() {
-            let _ = (remove(&records), remove(&pool));
-            return staged;
-        }
-        let done = sync_folder(&self.records).and_then(|()| put_in_place(&pool, &self.pool));
-        match done {
-            Err(_) if self.put_back(old_records).is_ok() => remove(&pool).and(done),
-            Err(failure) => Err(failure.with("the next command finishes the change")),
-            // If the disk loses this rename, the pool beside is still there.
-            Ok(()) => sync_folder(&self.pool).or(Ok(())),
-        }
+    /// Both files at once, as the head of this file tells. The pool's file holds
+    /// these bytes until then.
+    fn replace(&self, pair: Pair, file: Option<Vec<u8>>) -> Result<(), Failure> {
+        let (pool, records) = self.begin(&pair)?;
+        let log = Log::new(pair, &self.pool, file.as_deref());
+        New::like(&self.log, &self.records)?.put_unsettled(&log.bytes())?;
+        self.carry(pool, records, &log.pair).map_err(|failure| {
+            failure.with("the change is made, and the next change carries it on")
+        })
     }
 
-    /// The old records again, after the new pool could not take its place.
-    fn put_back(&self, old_records: Option<&[u8]>) -> Result<(), Failure> {
-        let staged = beside(&self.records, NEW);
-        match old_records {
-            Some(bytes) => {
-                stage(&staged, bytes, &self.records)?;
-                put_in_place(&staged, &self.records)
-            }
-            None => remove(&self.records),
-        }
+    /// Files for the new pool and the new records, with room and no bytes yet:
+    /// what cannot be written fails before anything is changed.
+    fn begin(&self, pair: &Pair) -> Result<(New, New), Failure> {
+        let pool = New::begin(&self.pool, pair.pool.len())?;
+        Ok((pool, New::begin(&self.records, pair.records.len())?))
     }
-}
 
-/// Fails if a file that `init` finds is not to be replaced. No file of a store
-/// is so long that it could not be put back.
-fn check_replaceable(path: &Path, force: bool) -> Result<(), Failure> {
-    if !force {
-        let words = format!("{} exists; --force replaces it", path.display());
-        return Err(Failure::Other(EXISTS, words));
+    /// Carries a log forward. Only once the disk has its name does a byte of it
+    /// go to the pool's side. A log that the disk brings back after it went holds
+    /// what the files hold.
+    fn carry(&self, pool: New, records: New, pair: &Pair) -> Result<(), Failure> {
+        sync_folder(&self.log)?;
+        pool.put(&pair.pool)?;
+        records.put(&pair.records)?;
+        remove(&self.log)
     }
-    check_writable(path)?;
-    if read(path)?.len() as u64 > MOST_BYTES {
-        let words = format!("{} is too long for a part of a store", path.display());
-        return Err(Failure::Other(EXISTS, words));
-    }
-    Ok(())
-}
-
-/// A store as found, and whether its pool is the one beside.
-struct Found {
-    pair: Pair,
-    beside: bool,
 }

@@ -3,6 +3,7 @@
 use crate::failure::Failure;
 use crate::help::{Command, COMMANDS};
 use std::ffi::{OsStr, OsString};
+use std::os::unix::ffi::OsStrExt;
 use std::path::PathBuf;
 use std::time::Duration;
 
@@ -39,11 +40,9 @@ pub fn take_apart(args: &[OsString]) -> Result<Asked, Failure> {
     let mut rest = rest.into_iter();
     let mut open = true;
     while let Some(word) = rest.next() {
-        match word.to_str() {
-            Some("--") if open => open = false,
-            Some(option) if open && option.len() > 1 && option.starts_with('-') => {
-                found.option(option, &mut rest)?;
-            }
+        match word.as_bytes() {
+            b"--" if open => open = false,
+            [b'-', _, ..] if open => found.option(&word, &mut rest)?,
             _ => found.words.push(word),
         }
     }
@@ -99,33 +98,30 @@ fn named(word: &OsStr) -> Option<&'static Command> {
 }
 
 impl Words {
-    /// Takes an option, and its value from `--name=value` or the next word.
+    /// Takes an option, and its value from `--name=value` or the next word. A
+    /// value may have any bytes.
     fn option(
         &mut self,
-        word: &str,
+        word: &OsStr,
         rest: &mut impl Iterator<Item = OsString>,
     ) -> Result<(), Failure> {
-        let (name, value) = match word.split_once('=') {
-            Some((name, value)) => (name, Some(OsString::from(value))),
-            None => (word, None),
-        };
-        let (valued, flags) = (self.command.options, self.command.flags);
-        if EVERYWHERE.contains(&name) || valued.contains(&name) {
+        let mut parts = word.as_bytes().splitn(2, |byte| *byte == b'=');
+        let name = String::from_utf8_lossy(parts.next().unwrap_or_default()).into_owned();
+        let value = parts.next().map(|value| OsStr::from_bytes(value).to_os_string());
+        let is_name = |known: &&str| *known == name;
+        if EVERYWHERE.iter().chain(self.command.options).any(is_name) {
             let value = value.or_else(|| rest.next());
             let value = value.ok_or_else(|| self.mistake(format!("{name} needs a value")))?;
-            self.options.push((name.to_string(), value));
+            self.options.push((name, value));
             return Ok(());
         }
-        if value.is_none() && (name == "--json" || flags.contains(&name)) {
-            self.flags.push(name.to_string());
+        if value.is_none() && ["--json"].iter().chain(self.command.flags).any(is_name) {
+            self.flags.push(name);
             return Ok(());
         }
-        let hint = if name[1..].starts_with(|letter: char| letter.is_ascii_digit()) {
-            " (numbers are not negative)"
-        } else {
-            ""
-        };
-        Err(self.mistake(format!("unknown option {word}{hint}")))
+        let number = name.as_bytes().get(1).map_or(false, u8::is_ascii_digit);
+        let hint = if number { " (numbers are not negative)" } else { "" };
+        Err(self.mistake(format!("unknown option {}{hint}", word.to_string_lossy())))
     }
 
     /// Fails if there are too few or too many words.
@@ -189,8 +185,9 @@ impl Words {
         PathBuf::from(given.or_else(set).unwrap_or_else(|| default.into()))
     }
 
+    /// How long to wait for another command: by default longer than one takes.
     pub fn wait(&self) -> Result<Duration, Failure> {
-        let seconds = self.number_of("--wait")?.unwrap_or(0);
+        let seconds = self.number_of("--wait")?.unwrap_or(1);
         Ok(Duration::from_secs(seconds))
     }
 }

@@ -2,12 +2,12 @@
 
 use super::place;
 use crate::answer::Answer;
-use crate::failure::Failure;
+use crate::failure::{Failure, NO_INPUT};
 use crate::files::{read, up_to_most};
 use crate::json::Json;
 use crate::pair::Pair;
 use crate::words::Words;
-use std::path::PathBuf;
+use std::path::{Path, PathBuf};
 use tjornsaki::MOST_SLOTS;
 
 /// Slots of a new store where no number is given.
@@ -19,10 +19,17 @@ pub fn init(words: &Words) -> Result<Answer, Failure> {
     if slots == 0 || slots > most {
         return Err(Failure::usage(format!("--slots takes 1 to {most}, not {slots}")));
     }
+    let (force, forget) = (words.flag("--force"), words.flag("--forget-history"));
+    if force && !forget {
+        return Err(Failure::usage(
+            "--force lets all versions start again, so that pools from before may pass as this \
+             store's own; add --forget-history if that is meant, or make the store elsewhere",
+        ));
+    }
     let (pool, records) = tjornsaki::room(slots as usize);
     let mut pair = Pair { pool, records };
     tjornsaki::wipe(&mut pair.pool, &mut pair.records)?;
-    place(words)?.make(&pair, words.flag("--force"))?;
+    place(words)?.make(pair, force)?;
     Ok(Answer::line(format!("{slots} free slots"), vec![("slots", Json::Number(slots))]))
 }
 
@@ -34,7 +41,11 @@ pub fn create(words: &Words) -> Result<Answer, Failure> {
 pub fn put(words: &Words) -> Result<Answer, Failure> {
     let root = words.number(0)?;
     let place = place(words)?;
-    let data = input(words.file(1))?;
+    let data = match (words.flag("--empty"), words.file(1)) {
+        (true, Some(_)) => return Err(Failure::usage("--empty takes no FILE")),
+        (true, None) => Vec::new(),
+        (false, file) => input(file, "; `put ROOT --empty` empties a blob")?,
+    };
     let length = data.len() as u64;
     place.change(|Pair { pool, records }| {
         tjornsaki::resize(pool, records, root, length)?;
@@ -47,7 +58,7 @@ pub fn put(words: &Words) -> Result<Answer, Failure> {
 pub fn write(words: &Words) -> Result<Answer, Failure> {
     let (root, offset) = (words.number(0)?, words.number(1)?);
     let place = place(words)?;
-    let data = input(words.file(2))?;
+    let data = input(words.file(2), "")?;
     place.change(|Pair { pool, records }| tjornsaki::write(pool, records, root, offset, &data))?;
     let size = data.len() as u64;
     let fields = vec![
@@ -73,11 +84,19 @@ pub fn delete(words: &Words) -> Result<Answer, Failure> {
 }
 
 /// All of a file, or of standard input. It is read before the store is locked,
-/// so that a pipe may come from another command on the same store.
-fn input(file: Option<PathBuf>) -> Result<Vec<u8>, Failure> {
-    match file {
-        Some(path) => read(&path),
-        None => up_to_most(std::io::stdin().lock())
-            .map_err(|error| Failure::file("read", "standard input".as_ref(), &error)),
+/// so that a pipe may come from another command on the same store. A standard
+/// input without bytes is a closed one, or that of a command that failed: it is
+/// never taken for what somebody wants to store.
+fn input(file: Option<PathBuf>, hint: &str) -> Result<Vec<u8>, Failure> {
+    let path = match file {
+        Some(path) => return read(&path),
+        None => Path::new("standard input"),
+    };
+    let bytes =
+        up_to_most(std::io::stdin().lock()).map_err(|error| Failure::file("read", path, &error))?;
+    if bytes.is_empty() {
+        let words = format!("nothing is changed: standard input has no bytes{hint}");
+        return Err(Failure::Other(NO_INPUT, words));
     }
+    Ok(bytes)
 }

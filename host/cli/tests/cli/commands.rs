@@ -14,9 +14,11 @@ fn init_makes_both_files() {
 fn init_replaces_only_by_force() {
     let folder = Folder::with_blob("init_force");
     let before = folder.store();
-    folder.run(&["init"]).fails(73, "store.pool exists; --force replaces it");
+    folder.run(&["init"]).fails(73, "store.pool exists; `tjornsaki init --help` says what");
+    folder.run(&["init", "--forget-history"]).fails(73, "store.pool exists");
+    folder.run(&["init", "--force"]).fails(64, "pools from before may pass as this store's own");
     assert_eq!(folder.store(), before);
-    folder.run(&["init", "--force"]).gives("16 free slots\n");
+    folder.run(&["init", "--force", "--forget-history"]).gives("16 free slots\n");
     folder.run(&["audit"]).gives("sound: 0 of 16 slots in use\n");
 }
 
@@ -52,7 +54,8 @@ fn put_and_get() {
     folder.run(&["get", "0", "-"]).gives("seven b");
     folder.run(&["get", "0", "copy"]).gives("7 bytes to copy\n");
     assert_eq!(folder.read("copy"), b"seven b");
-    folder.run_with(&["put", "0", "-"], b"").gives("blob 0 has 0 bytes\n");
+    folder.write("nothing", b"");
+    folder.run(&["put", "0", "nothing"]).gives("blob 0 has 0 bytes\n");
     folder.run(&["get", "0"]).gives("");
 }
 

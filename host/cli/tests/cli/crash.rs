@@ -1,16 +1,26 @@
 //! A power cut at each step of a change: the next command finds the store from
-//! before or from after it.
+//! before or from after it. The log is laid by hand, as `src/log.rs` describes it.
 
-use crate::support::{hundred, Folder};
+use crate::support::{hundred, Folder, CHANGING, READING};
 use std::fs;
+use std::os::unix::ffi::OsStrExt;
+use std::path::Path;
 
 const POOL: &str = "store.pool";
 const RECORDS: &str = "store.records";
 const NEW_POOL: &str = "store.pool.tj-new";
 const NEW_RECORDS: &str = "store.records.tj-new";
+const LOG: &str = "store.records.tj-log";
+const NEW_LOG: &str = "store.records.tj-log.tj-new";
 
 /// A store with 100 bytes in blob 0, and its files after a further change.
-fn changed(name: &str) -> (Folder, Vec<u8>, Vec<u8>) {
+struct Cut {
+    folder: Folder,
+    pool: Vec<u8>,
+    records: Vec<u8>,
+}
+
+fn cut(name: &str) -> Cut {
     let folder = Folder::with_blob(name);
     let before = folder.store();
     folder.run_with(&["put", "0"], b"new").gives("blob 0 has 3 bytes\n");
@@ -18,90 +28,201 @@ fn changed(name: &str) -> (Folder, Vec<u8>, Vec<u8>) {
     let [old_pool, old_records] = before.map(Option::unwrap);
     folder.write(POOL, &old_pool);
     folder.write(RECORDS, &old_records);
-    (folder, pool, records)
+    Cut { folder, pool, records }
 }
 
-/// The store is sound with these bytes, and can be changed again.
-fn goes_on(folder: &Folder, bytes: &[u8]) {
-    assert_eq!(folder.run(&["get", "0"]).out, bytes);
-    assert_eq!(folder.run(&["audit"]).status, 0);
-    folder.run_with(&["put", "0"], b"later").gives("blob 0 has 5 bytes\n");
-    folder.run(&["get", "0"]).gives("later");
-    assert_eq!(folder.names(), [POOL, RECORDS, "store.records.tj-lock"]);
+impl Cut {
+    /// The log of the change, made on the pool at this path.
+    fn log(&self, path: &Path) -> Vec<u8> {
+        let slots = (self.records.len() / 12) as u64;
+        let before = sum(&self.folder.read(POOL));
+        let path = path.as_os_str().as_bytes();
+        let head = [&b"tjornsaki log 1\n"[..], &slots.to_le_bytes(), &before.to_le_bytes()];
+        [&head.concat(), &self.records[..], &self.pool, path].concat()
+    }
+
+    fn lay_log(&self) {
+        let path = fs::canonicalize(self.folder.file(POOL)).unwrap();
+        self.folder.write(LOG, &self.log(&path));
+    }
+
+    /// The store is sound with these bytes, and can be changed again.
+    fn goes_on(&self, bytes: &[u8]) {
+        let folder = &self.folder;
+        assert_eq!(folder.run(&["get", "0"]).out, bytes);
+        assert_eq!(folder.run(&["audit"]).status, 0);
+        folder.run_with(&["put", "0"], b"later").gives("blob 0 has 5 bytes\n");
+        folder.run(&["get", "0"]).gives("later");
+        let own: Vec<_> = folder.names().into_iter().filter(|name| name.contains(".tj-")).collect();
+        assert_eq!(own, ["store.records.tj-lock"]);
+    }
+}
+
+fn sum(bytes: &[u8]) -> u64 {
+    let step = |sum: u64, byte: &u8| (sum ^ u64::from(*byte)).wrapping_mul(0x100_0000_01b3);
+    bytes.iter().fold(0xcbf2_9ce4_8422_2325, step)
 }
 
 #[test]
-fn before_the_new_pool_is_written() {
-    let (folder, pool, _) = changed("cut_1");
-    folder.write(NEW_POOL, &pool[..100]);
-    assert_eq!(folder.run(&["get", "0"]).out, hundred());
-    folder.write(NEW_POOL, &pool);
-    goes_on(&folder, &hundred());
-}
-
-#[test]
-fn before_the_new_records_are_in_place() {
-    let (folder, pool, records) = changed("cut_2");
-    folder.write(NEW_POOL, &pool);
-    folder.write(NEW_RECORDS, &records[..20]);
-    assert_eq!(folder.run(&["get", "0"]).out, hundred());
-    folder.write(NEW_RECORDS, &records);
-    goes_on(&folder, &hundred());
+fn before_the_log_has_its_name() {
+    let cut = cut("cut_before");
+    let log = cut.log(&cut.folder.file(POOL));
+    for size in [0, 20, 500, log.len()] {
+        cut.folder.write(NEW_LOG, &log[..size]);
+        cut.folder.write(NEW_POOL, b"");
+        cut.folder.write(NEW_RECORDS, b"");
+        assert_eq!(cut.folder.run(&["get", "0"]).out, hundred());
+    }
+    cut.goes_on(&hundred());
 }
 
 #[test]
 fn before_the_new_pool_is_in_place() {
-    let (folder, pool, records) = changed("cut_3");
-    folder.write(NEW_POOL, &pool);
-    folder.write(RECORDS, &records);
-    goes_on(&folder, b"new");
+    for size in [0, 100, 1024] {
+        let cut = cut(&format!("cut_pool_{size}"));
+        cut.lay_log();
+        cut.folder.write(NEW_POOL, &cut.pool[..size]);
+        cut.goes_on(b"new");
+    }
 }
 
 #[test]
-fn a_refused_command_finishes_nothing_and_loses_nothing() {
-    let (folder, pool, records) = changed("cut_refused");
-    folder.write(NEW_POOL, &pool);
-    folder.write(RECORDS, &records);
-    folder.run(&["resize", "0", "100000"]).fails(11, "refused 11");
-    folder.run(&["show", "0", "7"]).fails(10, "refused 10");
-    goes_on(&folder, b"new");
+fn before_the_new_records_are_in_place() {
+    for size in [0, 20, 192] {
+        let cut = cut(&format!("cut_records_{size}"));
+        cut.lay_log();
+        cut.folder.write(POOL, &cut.pool);
+        cut.folder.write(NEW_RECORDS, &cut.records[..size]);
+        cut.goes_on(b"new");
+    }
+}
+
+#[test]
+fn before_the_log_goes() {
+    let cut = cut("cut_log_goes");
+    cut.lay_log();
+    cut.folder.write(POOL, &cut.pool);
+    cut.folder.write(RECORDS, &cut.records);
+    cut.goes_on(b"new");
 }
 
 #[test]
 fn while_a_store_is_made() {
-    let folder = Folder::with_blob("cut_init");
-    fs::rename(folder.file(POOL), folder.file(NEW_POOL)).unwrap();
-    goes_on(&folder, &hundred());
+    for gone in [&[POOL, RECORDS][..], &[RECORDS]] {
+        let cut = cut(&format!("cut_init_{}", gone.len()));
+        cut.lay_log();
+        gone.iter().for_each(|name| fs::remove_file(cut.folder.file(name)).unwrap());
+        cut.goes_on(b"new");
+    }
 }
 
 #[test]
-fn while_a_store_is_replaced() {
-    let folder = Folder::with_blob("cut_force");
-    let (old, records) = (folder.read(POOL), folder.read(RECORDS));
-    folder.write(POOL, b"garbage");
-    folder.write(NEW_POOL, &old);
-    folder.write(RECORDS, &records);
-    goes_on(&folder, &hundred());
+fn a_pool_that_is_spoilt_meanwhile_is_made_whole() {
+    let cut = cut("cut_spoilt");
+    cut.lay_log();
+    cut.folder.write(POOL, b"garbage");
+    cut.goes_on(b"new");
 }
 
 #[test]
-fn a_bad_pool_beside_is_not_taken() {
-    let (folder, pool, _) = changed("cut_planted");
-    folder.write(NEW_POOL, &pool);
-    folder.spoil(64, &[0]);
-    let before = folder.store();
-    folder.run(&["get", "0"]).fails(4, "refused 4: slot 1 is spoiled");
-    folder.run(&["create"]).fails(4, "refused 4: slot 1 is spoiled");
-    assert_eq!(folder.store(), before);
+fn a_refused_command_finishes_nothing_and_loses_nothing() {
+    let cut = cut("cut_refused");
+    cut.lay_log();
+    let (names, store) = (cut.folder.names(), cut.folder.store());
+    cut.folder.run(&["resize", "0", "100000"]).fails(11, "refused 11");
+    cut.folder.run(&["show", "0", "7"]).fails(10, "refused 10");
+    cut.folder.run(&["init"]).fails(73, "exists");
+    assert_eq!((cut.folder.names(), cut.folder.store()), (names, store));
+    cut.goes_on(b"new");
+}
+
+/// A write of no bytes changes nothing, but carries on what waits.
+#[test]
+fn a_change_of_nothing_carries_on() {
+    let cut = cut("cut_nothing");
+    cut.lay_log();
+    cut.folder.write("empty", b"");
+    cut.folder.run(&["write", "0", "0", "empty"]).gives("0 bytes into blob 0\n");
+    assert_eq!(cut.folder.store(), [Some(cut.pool.clone()), Some(cut.records.clone())]);
+    cut.goes_on(b"new");
+}
+
+#[test]
+fn a_log_is_carried_to_its_own_pool_only() {
+    let cut = cut("cut_other_pool");
+    cut.folder.write("last-week", &cut.folder.read(POOL));
+    cut.folder.run_with(&["put", "0"], b"between").gives("blob 0 has 7 bytes\n");
+    let (pool, records) = (cut.folder.read(POOL), cut.folder.read(RECORDS));
+    let cut = Cut { pool, records, ..cut };
+    cut.folder.write(POOL, b"what the change was made on");
+    cut.lay_log();
+    cut.folder.write("notes", b"not a pool at all");
+    for other in ["last-week", "notes"] {
+        let before = (cut.folder.read(other), cut.folder.names());
+        let get = cut.folder.run(&["get", "0", "--pool", other]);
+        assert!([1, 6].contains(&get.status), "{get:?}");
+        cut.folder.run(&["put", "0", "--pool", other]).fails(73, "holds a change of the pool");
+        assert_eq!((cut.folder.read(other), cut.folder.names()), before);
+    }
+    cut.folder.run(&["get", "0", "--pool", "typo"]).fails(66, "typo");
+    cut.goes_on(b"between");
+}
+
+/// Moved, or seen at another path: a pool is also known by what it holds.
+#[test]
+fn a_pool_that_moved_is_found() {
+    let cut = cut("cut_moved");
+    cut.folder.write(LOG, &cut.log(Path::new("/somewhere/else/store.pool")));
+    cut.goes_on(b"new");
+}
+
+#[test]
+fn what_is_no_log_is_left_alone() {
+    let cut = cut("cut_no_log");
+    cut.folder.write(LOG, b"notes of somebody");
+    let before = (cut.folder.names(), cut.folder.store());
+    for command in READING.iter().chain(&CHANGING) {
+        cut.folder.run(command).fails(74, "store.records.tj-log is no log");
+    }
+    assert_eq!(cut.folder.read(LOG), b"notes of somebody");
+    assert_eq!((cut.folder.names(), cut.folder.store()), before);
+    fs::remove_file(cut.folder.file(LOG)).unwrap();
+    cut.goes_on(&hundred());
+}
+
+/// What lies beside the pool is never taken for a part of the store.
+#[test]
+fn a_pool_beside_is_not_taken() {
+    let cut = cut("cut_planted");
+    cut.folder.write(NEW_POOL, &cut.pool);
+    cut.folder.write("store.pool.tj-log", &cut.log(&cut.folder.file(POOL)));
+    cut.folder.spoil(64, &[0]);
+    let before = cut.folder.store();
+    cut.folder.run(&["get", "0"]).fails(4, "refused 4: slot 1 is spoiled");
+    cut.folder.run(&["create"]).fails(4, "refused 4: slot 1 is spoiled");
+    assert_eq!(cut.folder.store(), before);
 }
 
 #[test]
 fn a_link_beside_is_not_followed() {
     let folder = Folder::with_blob("cut_link");
     folder.write("precious", b"precious");
-    std::os::unix::fs::symlink("precious", folder.file(NEW_POOL)).unwrap();
-    std::os::unix::fs::symlink("precious", folder.file(NEW_RECORDS)).unwrap();
+    for name in [NEW_POOL, NEW_RECORDS, NEW_LOG] {
+        std::os::unix::fs::symlink("precious", folder.file(name)).unwrap();
+    }
     folder.run_with(&["put", "0"], b"new").gives("blob 0 has 3 bytes\n");
     assert_eq!(folder.read("precious"), b"precious");
     folder.run(&["get", "0"]).gives("new");
+}
+
+/// A folder cannot be taken away; another name is found.
+#[test]
+fn a_folder_in_the_way_stops_nothing() {
+    let folder = Folder::with_blob("cut_folder");
+    for name in [NEW_POOL, NEW_RECORDS, NEW_LOG] {
+        fs::create_dir(folder.file(name)).unwrap();
+    }
+    folder.run_with(&["put", "0"], b"new").gives("blob 0 has 3 bytes\n");
+    folder.run(&["get", "0"]).gives("new");
+    assert_eq!(folder.names().len(), 6);
 }

@@ -24,14 +24,15 @@ fn apart(folder: &Folder, script: &str) -> Option<Output> {
 }
 
 /// Disks from just large enough for a store of 1,024 slots to large enough for
-/// a change of it, which needs as many pages again.
+/// a change of it, which needs as many pages twice again: for the log, and for
+/// the files that take the place of the old ones.
 const FULL: &str = r#"
 set -e
 t init --slots 1024 >&2; t create >&2; head -c 40000 /dev/urandom | t put 0 >&2
 head -c 44976 /dev/urandom > input
 page=$(getconf PAGESIZE)
 store=$(((65536 + page - 1) / page + (12288 + page - 1) / page))
-for pages in $(seq $((store + 1)) $((2 * store + 3))); do
+for pages in $(seq $((store + 1)) 3 $((3 * store + 6))); do
     mount -t tmpfs -o nr_blocks=$pages t "$d"
     cp store.pool store.records "$d"
     status=0
@@ -43,7 +44,7 @@ for pages in $(seq $((store + 1)) $((2 * store + 3))); do
         cmp "$d"/store.records store.records
         grep -q "cannot write .*: No space left" said
     fi
-    if ls "$d" | grep tj-new; then exit 1; fi
+    if ls "$d" | grep tj- | grep -v tj-lock; then exit 1; fi
     umount "$d"
     echo $status
 done
@@ -71,7 +72,7 @@ cd "$d"
 t get 0 || exit 1
 t audit > /dev/null || exit 1
 t create; echo $?
-t init --force; echo $?
+t init --force --forget-history; echo $?
 cmp store.pool ../store.pool && cmp store.records ../store.records
 "#;
 

@@ -1,91 +1,272 @@
-//! A change that is killed, or whose disk fails, at every step that touches a
-//! file. The steps are found and broken by strace; without it, or without the
-//! right to use it, these tests are skipped.
+//! Every change is killed, and its disk fails, at every step that touches a file,
+//! with the records on the trusted side and the pool on the carrier's. What lies
+//! on the carrier's side at any step is kept. Then the store goes on with another
+//! change, and each kept file is handed back as the pool: every reading command
+//! refuses it, or answers what is truly stored.
+//!
+//! The steps are found and broken by strace, over the emulator too; without it,
+//! or without the right to use it, these tests are skipped.
 
-use crate::support::{emulator, hundred, skipped, Folder, PROGRAM};
-use std::process::{Command, Output};
+use crate::support::{emulator, skipped, Ended, Folder, PROGRAM};
+use std::collections::{BTreeMap, BTreeSet};
+use std::fs;
+use std::process::Command;
 
-/// The calls of the kernel that a change makes on files, by strace's names, and
-/// how many there are or more. The third write is the answer.
-const STEPS: [(&str, usize); 7] = [
-    ("/^rename", 2),
-    ("fsync", 6),
-    ("/^unlink", 2),
-    ("openat", 20),
-    ("/^fchmod", 2),
-    ("flock", 1),
-    ("write", 2),
-];
+const PLACE: [&str; 4] = ["--records", "safe/records", "--pool", "carrier/pool"];
+const SIDES: [&str; 2] = ["safe", "carrier"];
+const READS: [&[&str]; 5] =
+    [&["ls"], &["length", "0"], &["get", "0"], &["show", "0", "0"], &["audit"]];
 
-/// Runs `put 0 input`, with something done to a call.
-fn put(folder: &Folder, fault: &str) -> Option<Output> {
-    let inject = format!("inject={fault}");
-    let mut command = Command::new("strace");
-    command.args(["-qq", "-o", "/dev/null", "-e", &inject, PROGRAM, "put", "0", "input"]);
-    command.current_dir(&folder.path).env_remove("LD_LIBRARY_PATH").output().ok()
+/// What the kernel does for a program's memory, threads and signals, and when it
+/// is done with a file: nothing in a file hangs on it.
+const NO_STEPS: &str = " arch_prctl brk clone clone3 close execve exit_group fcntl futex getcwd \
+    getpid getrandom gettid madvise mmap mprotect mremap munmap poll ppoll prctl prlimit64 rseq \
+    rt_sigaction rt_sigprocmask rt_sigreturn sched_getaffinity set_robust_list set_tid_address \
+    sigaltstack ";
+
+/// What can change a file, or its name, or its lock. To be killed anywhere else is
+/// to be killed at the next one of these.
+const CHANGES: &str = " fallocate fchmod fchmodat fchown fchownat flock fsync ftruncate openat \
+    pwrite64 rename renameat renameat2 unlink unlinkat write ";
+
+fn is_in(list: &str, call: &str) -> bool {
+    list.contains(&format!(" {call} "))
 }
 
-/// A store with 100 bytes in blob 0, and a file to put into it.
-fn prepared(name: &str) -> Option<Folder> {
-    let folder = Folder::with_blob(name);
-    folder.write("input", b"new");
+/// All files of both sides.
+type Files = BTreeMap<String, Vec<u8>>;
+
+struct Trial {
+    folder: Folder,
+    words: Vec<&'static str>,
+    start: Files,
+    /// What is found before the change and after it.
+    before: [(i32, Vec<u8>); 2],
+    after: [(i32, Vec<u8>); 2],
+    /// Every content that a file on the carrier's side had up to this step. A
+    /// change is killed at one step after the other, so that none is left out.
+    kept: BTreeSet<Vec<u8>>,
+    /// Records and contents that were tried.
+    tried: BTreeSet<(Vec<u8>, Vec<u8>)>,
+}
+
+fn able() -> bool {
     let tried = Command::new("strace").args(["-qq", "-o", "/dev/null", "true"]).output();
-    let able = tried.map_or(false, |output| output.status.success());
-    if !able || !emulator().is_empty() {
-        skipped("no strace, or an emulator");
-        return None;
-    }
-    Some(folder)
+    tried.map_or(false, |output| output.status.success())
 }
 
-/// Does this to each call in turn, and lets the store be looked at after it;
-/// answers how often the command failed.
-fn at_every_step(folder: &Folder, what: &str, look: impl Fn(&Folder, &Output)) -> usize {
-    let before = folder.store();
+impl Trial {
+    /// A store that these commands make, and the change to try.
+    fn new(name: &str, made: &[&[&str]], words: &[&'static str]) -> Option<Trial> {
+        if !able() {
+            skipped("strace is missing, or may not be used");
+            return None;
+        }
+        let folder = Folder::new(name);
+        SIDES.iter().for_each(|side| fs::create_dir(folder.file(side)).unwrap());
+        folder.write("first", b"what was never stored");
+        folder.write("second", b"what is truly stored!");
+        let words = [words, &PLACE].concat();
+        let (kept, tried) = (BTreeSet::new(), BTreeSet::new());
+        let (start, before, after) = (Files::new(), Default::default(), Default::default());
+        let mut trial = Trial { folder, words, start, before, after, kept, tried };
+        for command in made {
+            assert_eq!(trial.run(command).status, 0);
+            trial.kept.extend(trial.carried());
+        }
+        trial.start = trial.files();
+        trial.before = trial.look();
+        Some(trial)
+    }
+
+    fn run(&self, command: &[&str]) -> Ended {
+        self.folder.run(&[command, &PLACE].concat())
+    }
+
+    /// What is found: the bytes of blob 0, and every slot and version.
+    fn look(&self) -> [(i32, Vec<u8>); 2] {
+        [["get", "0"].as_ref(), &["draw"]].map(|command| {
+            let found = self.run(command);
+            (found.status, found.out)
+        })
+    }
+
+    fn reads(&self) -> Vec<Ended> {
+        READS.iter().map(|command| self.run(command)).collect()
+    }
+
+    fn files(&self) -> Files {
+        let mut files = Files::new();
+        for side in SIDES {
+            for entry in fs::read_dir(self.folder.file(side)).unwrap() {
+                let name = format!("{side}/{}", entry.unwrap().file_name().to_str().unwrap());
+                files.insert(name.clone(), self.folder.read(&name));
+            }
+        }
+        files
+    }
+
+    /// What the files on the carrier's side hold.
+    fn carried(&self) -> Vec<Vec<u8>> {
+        let files = self.files().into_iter().filter(|(name, _)| name.starts_with("carrier"));
+        files.map(|(_, bytes)| bytes).collect()
+    }
+
+    /// Both sides again as they were at the start.
+    fn restore(&self) {
+        self.files().keys().for_each(|name| fs::remove_file(self.folder.file(name)).unwrap());
+        self.start.iter().for_each(|(name, bytes)| self.folder.write(name, bytes));
+    }
+
+    /// Runs the change under strace with these words.
+    fn traced(&self, words: &[&str]) -> Ended {
+        let mut command = Command::new("strace");
+        command.args(["-qq", "-f"]).args(words).args(emulator()).arg(PROGRAM).args(&self.words);
+        command.current_dir(&self.folder.path).env_remove("LD_LIBRARY_PATH");
+        let output = command.output().unwrap();
+        let err = String::from_utf8(output.stderr).unwrap();
+        Ended { status: output.status.code().unwrap_or(-1), out: output.stdout, err }
+    }
+
+    /// The calls of the kernel from the first that names a file of the store on,
+    /// each with how many of its name came before it.
+    fn steps(&mut self) -> Vec<(String, usize)> {
+        let trace = self.folder.file("trace");
+        let whole = self.traced(&["-o", trace.to_str().unwrap()]);
+        assert_eq!(whole.status, 0, "{whole:?}");
+        self.after = self.look();
+        let trace = fs::read_to_string(trace).unwrap();
+        let main = trace.split_whitespace().next().unwrap_or_default().to_string();
+        let (mut counts, mut steps, mut begun) = (BTreeMap::new(), vec![], false);
+        for line in trace.lines().filter_map(|line| line.strip_prefix(&main)) {
+            let (name, rest) = match line.trim_start().split_once('(') {
+                Some(parts) => parts,
+                None => continue,
+            };
+            let count = counts.entry(name.to_string()).or_insert(0);
+            *count += 1;
+            let named = SIDES.iter().any(|side| rest.contains(&format!("{side}/")));
+            begun |= named && !name.starts_with("exec");
+            let word = name.chars().all(|letter| letter.is_ascii_alphanumeric() || letter == '_');
+            if begun && word && !is_in(NO_STEPS, name) {
+                steps.push((name.to_string(), *count));
+            }
+        }
+        steps
+    }
+
+    /// The change with one fault; then the store is as before it or as after it.
+    /// Answers how the change ended, and how a reading command.
+    fn with_fault(&mut self, fault: &str) -> (i32, i32) {
+        self.restore();
+        let ended = self.traced(&["-o", "/dev/null", "-e", &format!("inject={fault}")]);
+        let found = self.look();
+        let [before, after] = [self.before == found, self.after == found];
+        assert!(before || after, "{fault}: {ended:?}: {found:?}");
+        assert!(ended.status != 0 || after, "{fault}: {ended:?}");
+        let told = ended.err.contains("the change is made");
+        assert!(ended.status <= 0 || told == (after && !before), "{fault}: {ended:?}");
+        (ended.status, found[0].0)
+    }
+
+    /// The next change, which finds and leaves a whole store.
+    fn go_on(&self, status: i32) {
+        if status == 66 {
+            assert_eq!(self.run(&["init"]).status, 0);
+        }
+        if status != 0 {
+            self.run(&["create"]).gives("0\n");
+        }
+        self.run(&["put", "0", "second"]).gives("blob 0 has 21 bytes\n");
+        let files = self.files();
+        let left: Vec<&str> = files.keys().map(String::as_str).collect();
+        assert_eq!(left, ["carrier/pool", "safe/records", "safe/records.tj-lock"]);
+    }
+
+    /// Hands back each file that was kept up to now, and these.
+    fn hand_back(&mut self, more: Vec<Vec<u8>>) {
+        let (records, pool) = (self.folder.read("safe/records"), self.folder.read("carrier/pool"));
+        let tried = &mut self.tried;
+        let kept = self.kept.iter().cloned().chain(more);
+        let new = kept.filter(|bytes| *bytes != pool);
+        let new: Vec<_> =
+            new.filter(|bytes| tried.insert((records.clone(), bytes.clone()))).collect();
+        if new.is_empty() {
+            return;
+        }
+        let truth = self.reads();
+        for bytes in new {
+            self.folder.write("carrier/pool", &bytes);
+            for (true_one, found) in truth.iter().zip(self.reads()) {
+                let right = found.status != 0 || found.out == true_one.out;
+                assert!(right, "{found:?} where {true_one:?} is stored");
+            }
+        }
+        self.folder.write("carrier/pool", &pool);
+    }
+}
+
+/// Kills the change, and lets its disk fail, at each step.
+fn at_every_step(name: &str, made: &[&[&str]], words: &[&'static str]) {
+    let mut trial = match Trial::new(name, made, words) {
+        Some(trial) => trial,
+        None => return,
+    };
+    let steps = trial.steps();
     let mut failures = 0;
-    for (step, most) in STEPS {
-        for nth in 1..=most {
-            let output = put(folder, &format!("{step}:{what}:when={nth}")).unwrap();
-            look(folder, &output);
-            failures += usize::from(!output.status.success());
-            let [pool, records] = before.clone().map(Option::unwrap);
-            folder.write("store.pool", &pool);
-            folder.write("store.records", &records);
-            let _ = std::fs::remove_file(folder.file("store.pool.tj-new"));
+    for (call, nth) in &steps {
+        for what in ["signal=KILL", "error=EIO"] {
+            if what.ends_with("KILL") && !is_in(CHANGES, call) {
+                continue;
+            }
+            let (status, read) = trial.with_fault(&format!("{call}:{what}:when={nth}"));
+            failures += usize::from(status != 0);
+            let carried = trial.carried();
+            if what.ends_with("KILL") {
+                trial.kept.extend(carried.clone());
+            }
+            trial.go_on(read);
+            trial.hand_back(carried);
         }
     }
-    failures
+    println!("{} steps, {failures} failures, {} handed back", steps.len(), trial.tried.len());
+    assert!(steps.len() >= 30 && failures >= 40, "{} steps, {failures} failures", steps.len());
+    assert!(trial.tried.len() >= 2, "{} files handed back", trial.tried.len());
+}
+
+const STORE: [&[&str]; 3] = [&["init"], &["create"], &["resize", "0", "21"]];
+
+#[test]
+fn init() {
+    at_every_step("fault_init", &[], &["init"]);
 }
 
 #[test]
-fn killed() {
-    let folder = match prepared("killed") {
-        Some(folder) => folder,
-        None => return,
-    };
-    let failures = at_every_step(&folder, "signal=KILL", |folder, _| {
-        let found = folder.run(&["get", "0"]);
-        assert!(found.out == hundred() || found.out == b"new", "{found:?}");
-        assert_eq!(folder.run(&["audit"]).status, 0);
-        assert_eq!(folder.run(&["create"]).status, 0);
-        let left = folder.names().into_iter().filter(|name| name.ends_with("tj-new")).count();
-        assert_eq!(left, 0);
-    });
-    assert!(failures > 20, "{failures}");
+fn init_by_force() {
+    at_every_step("fault_force", &STORE, &["init", "--force", "--forget-history"]);
 }
 
 #[test]
-fn broken_disk() {
-    let folder = match prepared("broken_disk") {
-        Some(folder) => folder,
-        None => return,
-    };
-    let before = folder.store();
-    let failures = at_every_step(&folder, "error=EIO", |folder, output| {
-        assert!(output.status.success() || folder.store() == before, "{output:?}");
-        let passed = folder.run(&["get", "0"]).out == b"new";
-        assert_eq!(passed, output.status.success(), "{output:?}");
-        assert!(passed || !output.stderr.is_empty());
-    });
-    assert!(failures > 20, "{failures}");
+fn create() {
+    at_every_step("fault_create", &STORE, &["create"]);
+}
+
+#[test]
+fn put() {
+    at_every_step("fault_put", &STORE, &["put", "0", "first"]);
+}
+
+#[test]
+fn write() {
+    at_every_step("fault_write", &STORE, &["write", "0", "0", "first"]);
+}
+
+#[test]
+fn resize() {
+    at_every_step("fault_resize", &STORE, &["resize", "0", "100"]);
+}
+
+#[test]
+fn delete() {
+    at_every_step("fault_delete", &STORE, &["delete", "0"]);
 }

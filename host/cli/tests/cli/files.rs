@@ -12,7 +12,22 @@ fn missing() {
     assert!(folder.names().is_empty());
     folder.run(&["init", "--pool", "no/such/p"]).fails(66, "no/such/p");
     folder.run(&["init", "--records", "no/such/r"]).fails(66, "no/such/r");
-    assert!(folder.names().iter().all(|name| name == "store.records.tj-lock"));
+    assert!(folder.names().is_empty(), "an init that fails leaves nothing");
+}
+
+/// Where only the records are lost, no hint leads to wiping the pool.
+#[test]
+fn lost_records() {
+    let folder = Folder::with_blob("lost_records");
+    fs::remove_file(folder.file("store.records")).unwrap();
+    fs::remove_file(folder.file("store.records.tj-lock")).unwrap();
+    let ended = folder.run(&["get", "0"]);
+    ended.fails(66, "bring them back from a copy");
+    assert!(!ended.err.contains("init"), "{}", ended.err);
+    let ended = folder.run(&["init"]);
+    ended.fails(73, "store.pool exists");
+    assert!(!ended.err.contains("--force"), "{}", ended.err);
+    assert_eq!(folder.names(), ["store.pool"]);
 }
 
 #[test]
@@ -50,7 +65,9 @@ fn read_only() {
         for command in CHANGING {
             folder.run(command).fails(77, &format!("{closed} is read-only"));
         }
-        folder.run(&["init", "--force"]).fails(77, &format!("{closed} is read-only"));
+        folder
+            .run(&["init", "--force", "--forget-history"])
+            .fails(77, &format!("{closed} is read-only"));
         assert_eq!(folder.store(), before);
         assert_eq!(folder.run(&["get", "0"]).status, 0);
         assert_eq!(folder.names().len(), 3);
@@ -65,7 +82,9 @@ fn a_folder_is_no_file() {
     for command in READING.iter().chain(&CHANGING) {
         folder.run(&[*command, &["--pool", "d"]].concat()).fails(74, "d is not a plain file");
     }
-    folder.run(&["init", "--force", "--pool", "d"]).fails(74, "d is not a plain file");
+    folder
+        .run(&["init", "--force", "--forget-history", "--pool", "d"])
+        .fails(74, "d is not a plain file");
     folder.run(&["get", "0", "d"]).fails(74, "cannot write d");
     assert_eq!(folder.store(), before);
 }
@@ -86,7 +105,13 @@ fn a_pipe_is_no_file() {
 fn output_never_replaces_the_store() {
     let folder = Folder::with_blob("own_files");
     let before = folder.store();
-    let names = ["store.pool", "./store.records", "store.records.tj-lock", "store.pool.tj-new"];
+    let names = [
+        "store.pool",
+        "./store.records",
+        "store.records.tj-lock",
+        "x.tj-new",
+        "store.records.tj-log",
+    ];
     for own in names {
         folder.run(&["get", "0", own]).fails(64, "belongs to the store");
         folder.run(&["draw", "--out", own]).fails(64, "belongs to the store");
@@ -101,7 +126,9 @@ fn init_replaces_no_long_files() {
     for name in ["store.pool", "store.records"] {
         let before = folder.read(name);
         folder.write(name, &long);
-        folder.run(&["init", "--force"]).fails(73, &format!("{name} is too long"));
+        folder
+            .run(&["init", "--force", "--forget-history"])
+            .fails(73, &format!("{name} is too long"));
         assert_eq!(folder.read(name), long);
         folder.write(name, &before);
     }
@@ -125,4 +152,54 @@ fn output_is_whole_or_not_there() {
     assert_eq!(folder.read("out"), b"what was there");
     folder.run(&["get", "0", "no/such/out"]).fails(4, "refused 4");
     folder.run(&["draw", "--out", "no/such/out"]).fails(66, "no/such/out");
+}
+
+/// The names of the store's own are for nothing else.
+#[test]
+fn own_names_are_refused() {
+    let folder = Folder::with_blob("own_names");
+    std::os::unix::fs::symlink("x.tj-log", folder.file("link")).unwrap();
+    folder.write("x.tj-log", b"something");
+    for own in ["x.tj-new", "x.tj-lock", "x.tj-log", "x.tj-new-3", "link"] {
+        for option in ["--pool", "--records"] {
+            folder.run(&["audit", option, own]).fails(64, "belongs to the store");
+            folder.run(&["init", option, own]).fails(64, "belongs to the store");
+        }
+        folder.run(&["get", "0", own]).fails(64, "belongs to the store");
+    }
+    assert_eq!(folder.read("x.tj-log"), b"something");
+}
+
+/// An output is first written beside its place, under a name that nothing has.
+#[test]
+fn output_takes_nothing_away() {
+    let folder = Folder::with_blob("output_beside");
+    for name in ["out.tj-new", "out.tj-log", "out.new", "out~"] {
+        folder.write(name, b"somebody's");
+    }
+    let before = folder.names().len();
+    folder.run(&["get", "0", "out"]).gives("100 bytes to out\n");
+    folder.run(&["draw", "--out", "out"]).gives("picture of 16 slots in out\n");
+    for name in ["out.tj-new", "out.tj-log", "out.new", "out~"] {
+        assert_eq!(folder.read(name), b"somebody's");
+    }
+    assert_eq!(folder.names().len(), before + 1);
+}
+
+/// Names may have any bytes, also after an equals sign.
+#[test]
+fn names_that_are_no_text() {
+    use std::ffi::OsString;
+    use std::os::unix::ffi::OsStringExt;
+    let folder = Folder::with_blob("no_text");
+    let name = OsString::from_vec(b"p\xff\xfe=x".to_vec());
+    fs::rename(folder.file("store.pool"), folder.path.join(&name)).unwrap();
+    let joined = [&b"--pool="[..], b"p\xff\xfe=x"].concat();
+    for words in [vec!["--pool".into(), name], vec![OsString::from_vec(joined)]] {
+        let output = folder.command().arg("length").arg("0").args(&words).output().unwrap();
+        assert_eq!(output.stdout, b"100\n", "{output:?}");
+    }
+    let unknown = OsString::from_vec(b"--p\xff".to_vec());
+    let output = folder.command().arg("audit").arg(unknown).output().unwrap();
+    assert_eq!(output.status.code(), Some(64));
 }

@@ -16,7 +16,7 @@ fn help_lists_all() {
         for command in COMMANDS {
             assert!(help.text().contains(&format!("\n  {command} ")), "{command}");
         }
-        for status in [64, 66, 70, 73, 74, 75, 77] {
+        for status in [64, 65, 66, 70, 73, 74, 75, 77] {
             assert!(help.text().contains(&format!("\n  {status}  ")), "{status}");
         }
         assert!(help.text().lines().all(|line| line.chars().count() <= 80));

@@ -26,9 +26,11 @@ fn a_changing_command_keeps_all_others_out() {
     let before = folder.store();
     let held = lock(&folder, ALONE);
     for command in READING.iter().chain(&CHANGING) {
-        folder.run(command).fails(75, "the store is locked by another command");
+        let words = [*command, &["--wait", "0"]].concat();
+        folder.run(&words).fails(75, "the store is locked by another command");
     }
-    folder.run(&["init", "--force"]).fails(75, "locked");
+    let words = ["init", "--force", "--forget-history", "--wait=0"];
+    folder.run(&words).fails(75, "locked");
     assert_eq!(folder.store(), before);
     drop(held);
     folder.run(&["create"]).gives("4\n");
@@ -42,7 +44,7 @@ fn reading_commands_go_together() {
         assert_eq!(folder.run(command).status, 0);
     }
     for command in CHANGING {
-        folder.run(command).fails(75, "locked");
+        folder.run(&[command, &["--wait", "0"]].concat()).fails(75, "locked");
     }
 }
 
@@ -71,4 +73,35 @@ fn many_at_once() {
     roots.sort_unstable();
     assert_eq!(roots, (0..12).collect::<Vec<_>>());
     folder.run(&["audit"]).gives("sound: 12 of 16 slots in use\n");
+}
+
+/// Without a word about it, a command waits for as long as another one takes.
+#[test]
+fn a_second_of_patience() {
+    let folder = Folder::with_blob("locked_patience");
+    let held = lock(&folder, ALONE);
+    let mut command = folder.command();
+    let waiting = command.args(["length", "0"]).stdout(Stdio::piped()).spawn().unwrap();
+    std::thread::sleep(std::time::Duration::from_millis(100));
+    drop(held);
+    assert_eq!(waiting.wait_with_output().unwrap().stdout, b"100\n");
+}
+
+/// An `init` that fails takes its lock file away; who waits for that file finds out.
+#[test]
+fn a_lock_file_that_goes() {
+    let folder = Folder::with_blob("locked_gone");
+    let held = lock(&folder, ALONE);
+    let mut command = folder.command();
+    let words = ["create", "--wait", "60"];
+    let waiting = command.args(words).stdout(Stdio::piped()).spawn().unwrap();
+    std::thread::sleep(std::time::Duration::from_millis(100));
+    std::fs::remove_file(folder.file("store.records.tj-lock")).unwrap();
+    std::fs::write(folder.file("store.records.tj-lock"), b"").unwrap();
+    let other = lock(&folder, ALONE);
+    drop(held);
+    std::thread::sleep(std::time::Duration::from_millis(100));
+    assert_eq!(folder.read("store.pool")[4 * 64], 0);
+    drop(other);
+    assert_eq!(waiting.wait_with_output().unwrap().stdout, b"4\n");
 }

@@ -1,5 +1,6 @@
 //! Tests of the command line, as a user or a program runs it.
 
+mod claims;
 mod commands;
 mod crash;
 mod demo;
@@ -9,8 +10,10 @@ mod faults;
 mod files;
 mod help;
 mod json;
+mod late;
 mod locks;
 mod numbers;
+mod owners;
 mod pipes;
 mod refusals;
 mod support;

@@ -68,3 +68,49 @@ fn input_that_cannot_be_read() {
     folder.run(&["write", "0", "0", "nowhere"]).fails(66, "cannot read nowhere");
     assert_eq!(folder.store(), before);
 }
+
+/// A closed standard input, or that of a command that failed, empties no blob.
+#[test]
+fn input_without_bytes() {
+    let folder = Folder::with_blob("pipe_empty");
+    let before = folder.store();
+    for words in [&["put", "0"][..], &["put", "0", "-"], &["write", "0", "0"]] {
+        let words_of_put = "; `put ROOT --empty` empties a blob";
+        let ended = folder.run_with(words, b"");
+        ended.fails(65, "nothing is changed: standard input has no bytes");
+        assert_eq!(ended.err.contains(words_of_put), words[0] == "put");
+    }
+    if there_is("bash") {
+        let (status, ..) = shell(&folder, "t put 0 <&-");
+        assert_eq!(status, 65);
+    }
+    assert_eq!(folder.store(), before);
+    folder.run(&["put", "0", "--empty", "file"]).fails(64, "--empty takes no FILE");
+    folder.run(&["put", "0", "--empty"]).gives("blob 0 has 0 bytes\n");
+    folder.run(&["length", "0"]).gives("0\n");
+}
+
+/// Nothing is delivered, so it failed: where output is closed, and where nobody
+/// reads all of a blob.
+#[test]
+fn output_that_nobody_gets() {
+    if !there_is("bash") {
+        return skipped("no bash");
+    }
+    let folder = Folder::with_blob("pipe_closed");
+    for command in ["get 0", "show 0 0", "ls", "--help", "get 0 --json"] {
+        let (status, out, err) = shell(&folder, &format!("t {command} >&-"));
+        assert_eq!((status, out), (74, vec![]), "{command}: {err}");
+    }
+    let (status, _, err) = shell(&folder, "t get 0 >&-");
+    assert!(status == 74 && err.contains("standard output"), "{err}");
+    let (status, _, err) = shell(&folder, "t resize 0 9 >&-");
+    assert!(status == 74 && err.contains("; the change is made"), "{err}");
+    folder.run(&["length", "0"]).gives("9\n");
+    let (status, ..) = shell(&folder, "t get 0 > /dev/null");
+    assert_eq!(status, 0);
+    for command in ["get 0", "show 0 0"] {
+        let ended = shell(&folder, &format!("(sleep 0.2; t {command}) | true"));
+        assert_eq!(ended, (74, vec![], String::new()), "{command}");
+    }
+}

@@ -94,8 +94,9 @@ impl Folder {
         command
     }
 
+    /// Runs with an input that does for commands that need one.
     pub fn run(&self, words: &[&str]) -> Ended {
-        self.run_with(words, b"")
+        self.run_with(words, b"x")
     }
 
     /// Runs with this input.

@@ -1,0 +1,161 @@
+//! A new file that takes the place of an old one, with its owner and its mode.
+//!
+//! It is begun beside the old one, under a name of its own and with nothing in it
+//! but room. Then it gets its bytes, the disk has them, and it takes the old
+//! one's name at once: nobody ever sees half of it. A new file that is given up
+//! goes away.
+//!
+//! Where owner and group cannot be kept, since the old file belongs to somebody
+//! else and this is not root's command, the old file is written over instead.
+//!
+//! A rename can be done and yet be reported as failed, on network storage say.
+//! So after a failure it is looked which file has the name.
+
+use crate::failure::Failure;
+use crate::files::{beside, check_plain, is_there, keep_owner, remove, sync_folder};
+use crate::kernel;
+use std::fs::{self, File, OpenOptions};
+use std::io::{self, Write};
+use std::os::unix::fs::{MetadataExt, OpenOptionsExt};
+use std::path::{Path, PathBuf};
+
+/// Tries at a name.
+const TRIES: u32 = 100;
+
+/// A file begun, or an old one to be written over.
+pub struct New {
+    file: File,
+    path: PathBuf,
+    /// Its name until it takes the place of the old one.
+    staged: Option<PathBuf>,
+}
+
+impl New {
+    /// Begins a file of the store, with room for so many bytes.
+    pub fn begin(path: &Path, size: usize) -> Result<New, Failure> {
+        let new = New::like(path, path)?;
+        if let Some(staged) = &new.staged {
+            let failed = |error| Failure::file("write", staged, &error);
+            kernel::reserve(&new.file, size).map_err(failed)?;
+        }
+        Ok(new)
+    }
+
+    /// The same without room, and with the owner and the mode of another file.
+    /// Whatever has the first name that is tried was left by a command that was
+    /// stopped, and is taken away; where that cannot be done, in a folder of
+    /// others say, the next name is tried.
+    pub fn like(path: &Path, like: &Path) -> Result<New, Failure> {
+        let name = |attempt| match attempt {
+            0 => beside(path, ".tj-new"),
+            _ => beside(path, &format!(".tj-new-{attempt}")),
+        };
+        New::named(path, like, name, |staged| {
+            let _ = remove(staged);
+        })
+    }
+
+    /// Begins an output file. Nothing is taken away.
+    pub fn unique(path: &Path) -> Result<New, Failure> {
+        let mine = std::process::id();
+        let name = |attempt| beside(path, &format!(".tj-out-{mine}-{attempt}"));
+        New::named(path, path, name, |_| ())
+    }
+
+    fn named(
+        path: &Path,
+        like: &Path,
+        name: impl Fn(u32) -> PathBuf,
+        clear: impl Fn(&Path),
+    ) -> Result<New, Failure> {
+        check_plain(path)?;
+        let mut options = OpenOptions::new();
+        options.write(true).create_new(true);
+        if is_there(like)? {
+            options.mode(0o600);
+        }
+        for attempt in 0..TRIES {
+            let staged = name(attempt);
+            clear(&staged);
+            match options.open(&staged) {
+                Ok(file) => return New::kept(file, path, like, staged),
+                Err(error) if error.kind() == io::ErrorKind::AlreadyExists => continue,
+                Err(error) => return Err(Failure::file("write", &staged, &error)),
+            }
+        }
+        let error = io::Error::from(io::ErrorKind::AlreadyExists);
+        Err(Failure::file("write", &name(0), &error))
+    }
+
+    /// Keeps owner and mode, or else takes the old file itself.
+    fn kept(file: File, path: &Path, like: &Path, staged: PathBuf) -> Result<New, Failure> {
+        let new = New { file, path: path.to_path_buf(), staged: Some(staged) };
+        match keep_owner(&new.file, like) {
+            Ok(()) => Ok(new),
+            // A log has no old file: its maker's will do.
+            Err(_) if path != like => Ok(new),
+            Err(_) => {
+                let file = OpenOptions::new().write(true).open(path);
+                let file = file.map_err(|error| Failure::file("write", path, &error))?;
+                Ok(New { file, path: path.to_path_buf(), staged: None })
+            }
+        }
+    }
+
+    /// Gives it its bytes, and lets it take the place of the old file, which the
+    /// disk then has.
+    pub fn put(self, bytes: &[u8]) -> Result<(), Failure> {
+        let path = self.path.clone();
+        self.put_unsettled(bytes)?;
+        sync_folder(&path)
+    }
+
+    /// The same, but the disk may still lose the new name.
+    pub fn put_unsettled(mut self, bytes: &[u8]) -> Result<(), Failure> {
+        self.fill(bytes).map_err(|error| {
+            let path = self.staged.as_deref().unwrap_or(&self.path);
+            Failure::file("write", path, &error)
+        })?;
+        match self.staged.take() {
+            Some(staged) => self.rename(&staged),
+            None => Ok(()),
+        }
+    }
+
+    fn fill(&mut self, bytes: &[u8]) -> io::Result<()> {
+        self.file.write_all(bytes)?;
+        self.file.set_len(bytes.len() as u64)?;
+        self.file.sync_all()
+    }
+
+    /// Takes the old file's name, and after a failure looks again.
+    fn rename(&self, staged: &Path) -> Result<(), Failure> {
+        let error = match fs::rename(staged, &self.path) {
+            Ok(()) => return Ok(()),
+            Err(error) => Failure::file("replace", &self.path, &error),
+        };
+        match self.has_the_name() {
+            Ok(true) => Ok(()),
+            Ok(false) if fs::remove_file(staged).is_ok() => Err(error),
+            _ => Err(error.with("whether it was done all the same, the next command tells")),
+        }
+    }
+
+    /// Whether the path names this file.
+    fn has_the_name(&self) -> io::Result<bool> {
+        let mine = self.file.metadata()?;
+        match fs::metadata(&self.path) {
+            Ok(named) => Ok((mine.dev(), mine.ino()) == (named.dev(), named.ino())),
+            Err(error) if error.kind() == io::ErrorKind::NotFound => Ok(false),
+            Err(error) => Err(error),
+        }
+    }
+}
+
+impl Drop for New {
+    fn drop(&mut self) {
+        if let Some(staged) = &self.staged {
+            let _ = remove(staged);
+        }
+    }
+}

@@ -1,0 +1,146 @@
+//! A store of one user that another one's command changes. Only root can try:
+//! otherwise these tests are skipped.
+
+use crate::support::{emulator, hundred, skipped, Ended, Folder, PROGRAM};
+use std::fs::{self, Permissions};
+use std::io::Write;
+use std::os::unix::fs::{MetadataExt, PermissionsExt};
+use std::os::unix::process::CommandExt;
+use std::path::Path;
+use std::process::{Command, Stdio};
+
+const OWNER: u32 = 51_001;
+const FRIEND: u32 = 51_002;
+const NAMES: [&str; 3] = ["store.pool", "store.records", "store.records.tj-lock"];
+
+/// A user's folder with a store, where others can run the program.
+struct Home {
+    folder: Folder,
+    program: String,
+}
+
+fn home(name: &str, mode: u32) -> Option<Home> {
+    let path = std::env::temp_dir().join(format!("tjornsaki-{}-{name}", std::process::id()));
+    fs::create_dir_all(path.join("home")).unwrap();
+    fs::set_permissions(&path, Permissions::from_mode(0o755)).unwrap();
+    let program = path.join("tjornsaki").to_str().unwrap().to_string();
+    fs::copy(PROGRAM, &program).unwrap();
+    let home = Home { folder: Folder { path: path.clone() }, program };
+    if !chown(&path.join("home"), OWNER, OWNER) {
+        skipped("only root can give files to others");
+        return None;
+    }
+    if home.run(OWNER, &["init"], b"").status != 0 {
+        skipped("another user cannot run the program from the temporary folder");
+        return None;
+    }
+    assert_eq!(home.run(OWNER, &["create"], b"").status, 0);
+    assert_eq!(home.run(OWNER, &["put", "0"], &hundred()).status, 0);
+    NAMES.iter().for_each(|name| chmod(&home.file(name), mode));
+    Some(home)
+}
+
+fn chown(path: &Path, owner: u32, group: u32) -> bool {
+    let to = format!("{owner}:{group}");
+    Command::new("chown").arg(to).arg(path).status().map_or(false, |status| status.success())
+}
+
+fn chmod(path: &Path, mode: u32) {
+    fs::set_permissions(path, Permissions::from_mode(mode)).unwrap();
+}
+
+impl Home {
+    fn file(&self, name: &str) -> std::path::PathBuf {
+        self.folder.file("home").join(name)
+    }
+
+    /// Runs the program as this user, in the owner's group unless it is root, and
+    /// with nothing for others in what it makes.
+    fn run(&self, user: u32, words: &[&str], input: &[u8]) -> Ended {
+        let group = if user == 0 { 0 } else { OWNER };
+        let line = "umask 077; exec \"$@\"";
+        let mut command = Command::new("sh");
+        command.args(["-c", line, "sh"]).args(emulator()).arg(&self.program).args(words);
+        command.current_dir(self.folder.file("home")).uid(user).gid(group);
+        command.stdin(Stdio::piped()).stdout(Stdio::piped()).stderr(Stdio::piped());
+        let mut child = match command.spawn() {
+            Ok(child) => child,
+            Err(error) => return Ended { status: -1, out: vec![], err: error.to_string() },
+        };
+        let _ = child.stdin.take().unwrap().write_all(input);
+        let output = child.wait_with_output().unwrap();
+        let err = String::from_utf8(output.stderr).unwrap();
+        Ended { status: output.status.code().unwrap(), out: output.stdout, err }
+    }
+
+    /// All files still belong to the owner, with this mode.
+    fn is_kept(&self, mode: u32) {
+        for name in NAMES {
+            let about = self.file(name).metadata().unwrap();
+            let found = (about.uid(), about.gid(), about.mode() & 0o7777);
+            assert_eq!(found, (OWNER, OWNER, mode), "{name}");
+        }
+    }
+}
+
+#[test]
+fn root_changes_a_user_s_store() {
+    let home = match home("root", 0o600) {
+        Some(home) => home,
+        None => return,
+    };
+    fs::remove_file(home.file("store.records.tj-lock")).unwrap();
+    home.run(0, &["put", "0"], b"by root").gives("blob 0 has 7 bytes\n");
+    home.is_kept(0o600);
+    home.run(OWNER, &["get", "0"], b"").gives("by root");
+    home.run(OWNER, &["put", "0"], b"by its owner").gives("blob 0 has 12 bytes\n");
+    home.is_kept(0o600);
+}
+
+/// The folder lets nobody take away what others made, and root's command left its
+/// files behind, which the owner cannot even read.
+#[test]
+fn what_root_left_blocks_nobody() {
+    let home = match home("left", 0o640) {
+        Some(home) => home,
+        None => return,
+    };
+    chmod(&home.folder.file("home"), 0o1777);
+    assert!(chown(&home.folder.file("home"), 0, 0));
+    for name in ["store.pool.tj-new", "store.records.tj-new", "store.records.tj-log.tj-new"] {
+        fs::write(home.file(name), b"left").unwrap();
+        chmod(&home.file(name), 0o600);
+    }
+    assert_eq!(home.run(OWNER, &["get", "0"], b"").out, hundred());
+    home.run(OWNER, &["put", "0"], b"still mine").gives("blob 0 has 10 bytes\n");
+    home.run(OWNER, &["get", "0"], b"").gives("still mine");
+    home.is_kept(0o640);
+}
+
+#[test]
+fn a_friend_of_the_group_takes_nothing_away() {
+    let home = match home("friend", 0o660) {
+        Some(home) => home,
+        None => return,
+    };
+    chmod(&home.folder.file("home"), 0o770);
+    home.run(FRIEND, &["put", "0"], b"by a friend").gives("blob 0 has 11 bytes\n");
+    home.is_kept(0o660);
+    home.run(OWNER, &["put", "0"], b"by the owner").gives("blob 0 has 12 bytes\n");
+    home.is_kept(0o660);
+}
+
+/// An output that belongs to somebody stays his.
+#[test]
+fn root_writes_a_user_s_output() {
+    let home = match home("output", 0o600) {
+        Some(home) => home,
+        None => return,
+    };
+    fs::write(home.file("out"), b"before").unwrap();
+    assert!(chown(&home.file("out"), OWNER, OWNER));
+    chmod(&home.file("out"), 0o640);
+    home.run(0, &["get", "0", "out"], b"").gives("100 bytes to out\n");
+    let about = home.file("out").metadata().unwrap();
+    assert_eq!((about.uid(), about.gid(), about.mode() & 0o7777), (OWNER, OWNER, 0o640));
+}
