@@ -99,12 +99,19 @@ from 0 and hold 48 bytes each, the last one the rest." },
         short: "check the whole store",
         long: "\
 Checks every block and every free slot against the records, and counts the
-slots in use." },
+slots in use. It stops at the first bad slot; `check` lists them all." },
+    Command { name: "check", words: &[], options: &[], flags: &[],
+        short: "list every bad slot, and the blobs it hurts",
+        long: "\
+Goes on where audit stops: lists every bad slot with its refusal and the blobs
+it hurts, then the blobs that read whole and those that are refused. Below a
+bad block nothing is reached; what is there is called cut off, and is bad only
+if it is bad by itself. The exit status is that of audit." },
     Command { name: "draw", words: &[], options: &["--out"], flags: &[],
         short: "draw a picture of the store",
         long: "\
-Draws the slots with their versions and the blobs as trees. A slot that the
-store refuses is red, with the reason; the command itself then still succeeds.
+Draws the slots with their versions and the blobs as trees. Every slot that
+`check` lists is red, with the reason; the command itself then still succeeds.
 
   --out FILE.svg   write it there (standard output)" },
     Command { name: "demo", words: &[], options: &["--out"], flags: &[],

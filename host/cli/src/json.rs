@@ -22,6 +22,10 @@ impl Json {
         Json::Text(bytes.iter().map(|byte| format!("{byte:02x}")).collect())
     }
 
+    pub fn numbers(numbers: &[u64]) -> Json {
+        Json::List(numbers.iter().copied().map(Json::Number).collect())
+    }
+
     /// A number, or null where there is none.
     pub fn slot(slot: Option<u64>) -> Json {
         slot.map_or(Json::Null, Json::Number)

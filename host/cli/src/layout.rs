@@ -1,5 +1,5 @@
-//! The bytes of blocks and records, as far as a list or a picture shows them.
-//! Nothing here decides whether a block is good: the library does.
+//! The bytes of blocks and records. Nothing here decides whether a block is
+//! good: the library does, and `survey` goes on where the library stops.
 
 use tjornsaki::{BLOCK_BYTES, RECORD_BYTES};
 
@@ -9,6 +9,7 @@ pub const LEAF_BYTES: u64 = 48;
 pub const FAN_OUT: u64 = 12;
 
 const HEAD: usize = 16;
+const CHILD_BYTES: usize = 4;
 
 #[derive(Clone, Copy, Debug, PartialEq, Eq)]
 pub enum State {
@@ -30,13 +31,14 @@ pub fn records(bytes: &[u8]) -> Vec<Record> {
 }
 
 fn record(bytes: &[u8]) -> Record {
+    let version = number(&bytes[4..12]);
     let state = match bytes[..4] {
         [0x52, 0x31, 0, 0] => State::Free,
-        [0x52, 0x31, 1, 0] => State::Part,
-        [0x52, 0x31, 2, 0] => State::Root,
+        [0x52, 0x31, 1, 0] if version > 0 => State::Part,
+        [0x52, 0x31, 2, 0] if version > 0 => State::Root,
         _ => State::Broken,
     };
-    Record { state, version: number(&bytes[4..12]) }
+    Record { state, version }
 }
 
 /// A block as it lies in the pool, whoever wrote it.
@@ -59,6 +61,11 @@ impl<'a> Block<'a> {
         self.bytes[2]
     }
 
+    /// How many bytes or children it says that it has.
+    pub fn count(&self) -> u8 {
+        self.bytes[3]
+    }
+
     pub fn slot(&self) -> u64 {
         number(&self.bytes[4..8])
     }
@@ -67,16 +74,28 @@ impl<'a> Block<'a> {
         number(&self.bytes[8..HEAD])
     }
 
+    /// Whether all its bytes are zero.
+    pub fn blank(&self) -> bool {
+        self.bytes.iter().all(|byte| *byte == 0)
+    }
+
+    /// Whether the payload is zero after what the count says is used.
+    pub fn zeros_after(&self) -> bool {
+        let each = if self.height() == 0 { 1 } else { CHILD_BYTES };
+        let used = usize::from(self.count()) * each;
+        self.bytes[HEAD..].iter().skip(used).all(|byte| *byte == 0)
+    }
+
     /// The bytes of a leaf.
     pub fn data(&self) -> &'a [u8] {
-        let size = usize::from(self.bytes[3]).min(LEAF_BYTES as usize);
+        let size = usize::from(self.count()).min(LEAF_BYTES as usize);
         &self.bytes[HEAD..HEAD + size]
     }
 
     /// The slots in the row of an inner block.
     pub fn children(&self) -> Vec<usize> {
-        let count = usize::from(self.bytes[3]).min(FAN_OUT as usize);
-        let row = self.bytes[HEAD..].chunks_exact(4).take(count);
+        let count = usize::from(self.count()).min(FAN_OUT as usize);
+        let row = self.bytes[HEAD..].chunks_exact(CHILD_BYTES).take(count);
         row.map(|child| number(child) as usize).collect()
     }
 }

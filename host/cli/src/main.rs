@@ -15,6 +15,8 @@ mod lock;
 mod log;
 mod pair;
 mod replace;
+mod survey;
+mod wording;
 mod words;
 
 use failure::Failure;

@@ -1,6 +1,7 @@
 //! Each command, from its words to its answer.
 
 mod changing;
+mod check;
 mod list;
 mod reading;
 
@@ -24,6 +25,7 @@ pub fn run(words: &Words) -> Result<Answer, Failure> {
         "show" => reading::show(words),
         "delete" => changing::delete(words),
         "audit" => reading::audit(words),
+        "check" => check::check(words),
         "draw" => reading::draw(words),
         "demo" => demo::demo(words.value("--out").map(PathBuf::from).as_deref()),
         name => Err(Failure::internal(format!("nothing is behind the command {name}"))),

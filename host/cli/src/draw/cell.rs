@@ -48,6 +48,8 @@ pub fn reason(cell: &Cell) -> String {
     match (cell.refusal, cell.role) {
         (Some(refusal), _) => format!("{} {}", refusal.number, refusal.words()),
         (None, Role::Root) => "root".into(),
+        (None, Role::Inner) if cell.cut_off => "inner, cut off".into(),
+        (None, Role::Leaf) if cell.cut_off => "leaf, cut off".into(),
         (None, Role::Inner) => "inner".into(),
         (None, Role::Leaf) => "leaf".into(),
         (None, Role::Free) if cell.worn() => "free, worn".into(),

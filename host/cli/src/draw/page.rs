@@ -6,6 +6,7 @@ use super::grid;
 use super::scene::{Blob, Cell, Role, Scene};
 use super::tree::place;
 use crate::layout::{blocks, leaves};
+use crate::wording::counted;
 
 const MARGIN: i32 = 28;
 /// Blobs stand side by side up to here.
@@ -45,6 +46,13 @@ fn verdict(canvas: &mut Canvas, scene: &Scene, y: i32) -> i32 {
         y += 20;
         canvas.text(MARGIN, y, Pen::left(13, RED), &words);
     }
+    let cut_off = scene.count(|cell| cell.cut_off);
+    if cut_off > 0 {
+        y += 20;
+        let slots = counted(cut_off as u64, "slot");
+        let words = format!("Cut off, and not bad by themselves: {slots}.");
+        canvas.text(MARGIN, y, Pen::left(13, FAINT), &words);
+    }
     y
 }
 
@@ -57,7 +65,10 @@ fn told(cell: &Cell) -> String {
 
 /// One sample of each colour.
 fn colours(canvas: &mut Canvas, y: i32) -> i32 {
-    let sample = |role, version| Cell { slot: 7, role, version, refusal: None, claims: None };
+    let sample = |role, version| {
+        let (refusal, cut_off, claims) = (None, false, None);
+        Cell { slot: 7, role, version, refusal, cut_off, claims }
+    };
     let refused = tjornsaki::Refusal { number: 6, slot: None };
     let samples = [
         (sample(Role::Root, 1), "root"),

@@ -1,8 +1,9 @@
-//! What there is to see in a store. The library says what is refused; blocks
-//! are only read for the shape of the trees.
+//! What there is to see in a store. The survey says what is bad; blocks are
+//! only read here for the shape of the trees.
 
-use crate::layout::{self, block, records, Block, Record, State};
-use tjornsaki::{Refusal, BLOCK_BYTES};
+use crate::layout::{block, records, Block, Record, State};
+use crate::survey::Survey;
+use tjornsaki::Refusal;
 
 #[derive(Clone, Copy, Debug, PartialEq, Eq)]
 pub enum Role {
@@ -19,6 +20,8 @@ pub struct Cell {
     pub role: Role,
     pub version: u64,
     pub refusal: Option<Refusal>,
+    /// Not bad, but out of reach below a bad block.
+    pub cut_off: bool,
     /// The slot and version that its block claims where they are others.
     pub claims: Option<String>,
 }
@@ -49,23 +52,16 @@ pub struct Scene {
 
 impl Scene {
     pub fn new(pool: &[u8], record_bytes: &[u8]) -> Result<Scene, Refusal> {
-        let audit = tjornsaki::audit(pool, record_bytes);
-        match audit {
-            Err(refusal) if refusal.number == 1 => return Err(refusal),
-            _ => (),
-        }
+        let survey = Survey::new(pool, record_bytes)?;
         let records = records(record_bytes);
         let mut seen = vec![false; records.len()];
         let mut blobs = Vec::new();
-        for root in layout::roots(&records) {
-            let length = tjornsaki::length(pool, record_bytes, root);
-            let tree = node(pool, &records, root as usize, 3, &mut seen);
-            blobs.push(Blob { tree, length });
+        for blob in &survey.blobs {
+            let tree = node(pool, &records, blob.root as usize, 3, &mut seen);
+            blobs.push(Blob { tree, length: blob.length });
         }
-        let refusals: Vec<Refusal> =
-            blobs.iter().filter_map(|blob| blob.length.err()).chain(audit.err()).collect();
-        let slots = (0..records.len()).map(|slot| cell(pool, &records, slot, &refusals));
-        Ok(Scene { cells: slots.collect(), blobs, audit })
+        let slots = (0..records.len()).map(|slot| cell(pool, records[slot], slot, &survey));
+        Ok(Scene { cells: slots.collect(), blobs, audit: survey.audit })
     }
 
     /// All refused slots, each once.
@@ -94,8 +90,7 @@ fn node(pool: &[u8], records: &[Record], slot: usize, height: u8, seen: &mut [bo
     Node { slot, children }
 }
 
-fn cell(pool: &[u8], records: &[Record], slot: usize, refusals: &[Refusal]) -> Cell {
-    let record = records[slot];
+fn cell(pool: &[u8], record: Record, slot: usize, survey: &Survey) -> Cell {
     let found = block(pool, slot);
     let tall = found.map_or(false, |block| block.marked() && block.height() > 0);
     let role = match record.state {
@@ -105,11 +100,12 @@ fn cell(pool: &[u8], records: &[Record], slot: usize, refusals: &[Refusal]) -> C
         State::Part if tall => Role::Inner,
         State::Part => Role::Leaf,
     };
-    let refusal = refusals.iter().find(|refusal| refusal.slot == Some(slot as u64)).copied();
-    let bytes = &pool[slot * BLOCK_BYTES..][..BLOCK_BYTES];
-    let empty = bytes.iter().all(|byte| *byte == 0);
-    let claims = found.filter(|_| !empty).and_then(|block| claims(slot, record, &block));
-    Cell { slot, role, version: record.version, refusal, claims }
+    let bad = survey.bad.iter().find(|bad| bad.refusal.slot == Some(slot as u64));
+    let refusal = bad.map(|bad| bad.refusal);
+    let cut_off = survey.cut_off.contains(&(slot as u64));
+    let claims =
+        found.filter(|block| !block.blank()).and_then(|block| claims(slot, record, &block));
+    Cell { slot, role, version: record.version, refusal, cut_off, claims }
 }
 
 /// What a block says of itself where its record says otherwise.

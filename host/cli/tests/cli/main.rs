@@ -1,5 +1,6 @@
 //! Tests of the command line, as a user or a program runs it.
 
+mod check;
 mod claims;
 mod commands;
 mod crash;

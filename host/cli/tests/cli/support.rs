@@ -155,8 +155,15 @@ pub const CHANGING: [&[&str]; 5] =
     [&["create"], &["put", "0"], &["write", "0", "0"], &["resize", "0", "7"], &["delete", "0"]];
 
 /// Every command that reads a store.
-pub const READING: [&[&str]; 6] =
-    [&["ls"], &["length", "0"], &["get", "0"], &["show", "0", "0"], &["audit"], &["draw"]];
+pub const READING: [&[&str]; 7] = [
+    &["ls"],
+    &["length", "0"],
+    &["get", "0"],
+    &["show", "0", "0"],
+    &["audit"],
+    &["check"],
+    &["draw"],
+];
 
 /// Whether a program can be run.
 pub fn there_is(program: &str) -> bool {

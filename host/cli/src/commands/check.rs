@@ -1,0 +1,60 @@
+//! The list of every bad slot.
+
+use super::place;
+use crate::answer::Answer;
+use crate::failure::Failure;
+use crate::json::Json;
+use crate::pair::Pair;
+use crate::survey::{Bad, Survey};
+use crate::wording::listed;
+use crate::words::Words;
+
+pub fn check(words: &Words) -> Result<Answer, Failure> {
+    let Pair { pool, records } = place(words)?.load()?;
+    let survey = Survey::new(&pool, &records)?;
+    let (refused, reads): (Vec<_>, Vec<_>) =
+        survey.blobs.iter().partition(|blob| blob.length.is_err());
+    let [refused, reads]: [Vec<u64>; 2] =
+        [refused, reads].map(|blobs| blobs.iter().map(|blob| blob.root).collect());
+    let mut lines: Vec<String> = survey.bad.iter().map(line).collect();
+    if !survey.cut_off.is_empty() {
+        let slots = listed(&survey.cut_off, "and");
+        lines.push(format!("cut off, not bad by themselves: slots {slots}"));
+    }
+    if survey.bad.is_empty() {
+        lines.push("no slot is bad".into());
+    }
+    lines.push(format!("blobs that read whole: {}", listed(&reads, "and")));
+    if let Err(refusal) = survey.audit {
+        lines.push(format!("blobs that are refused: {}", listed(&refused, "and")));
+        lines.push(format!("audit: {refusal}; no change is made until it passes"));
+    }
+    let fields = vec![
+        ("bad", Json::List(survey.bad.iter().map(row).collect())),
+        ("reads", Json::numbers(&reads)),
+        ("refused", Json::numbers(&refused)),
+        ("cut_off", Json::numbers(&survey.cut_off)),
+    ];
+    let mut answer = Answer::line(lines.join("\n"), fields);
+    answer.failure = survey.audit.err().map(Failure::from);
+    Ok(answer)
+}
+
+fn line(Bad { refusal, hurts, cut_off }: &Bad) -> String {
+    let blobs = match (hurts.len(), cut_off) {
+        (0, false) => "hurts no blob".into(),
+        (0, true) => "cut off".into(),
+        (_, false) => format!("hurts blob {}", listed(hurts, "and")),
+        (_, true) => format!("cut off from blob {}", listed(hurts, "or")),
+    };
+    format!("{refusal}; {blobs}")
+}
+
+fn row(bad: &Bad) -> Json {
+    Json::Object(vec![
+        ("slot", Json::slot(bad.refusal.slot)),
+        ("refusal", Json::Number(bad.refusal.number)),
+        ("words", Json::text(bad.refusal.words())),
+        ("hurts", Json::numbers(&bad.hurts)),
+    ])
+}

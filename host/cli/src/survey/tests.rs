@@ -1,0 +1,223 @@
+//! The walk against the library, over spoilt stores by the thousand.
+
+use super::*;
+use crate::layout::Block;
+use tjornsaki::{BLOCK_BYTES, RECORD_BYTES};
+
+struct Chance(u64);
+
+impl Chance {
+    fn below(&mut self, most: usize) -> usize {
+        self.0 ^= self.0 << 13;
+        self.0 ^= self.0 >> 7;
+        self.0 ^= self.0 << 17;
+        (self.0 >> 11) as usize % most
+    }
+}
+
+/// A store, and its pool at every step of its history.
+struct Store {
+    records: Vec<u8>,
+    history: Vec<Vec<u8>>,
+}
+
+impl Store {
+    /// Blobs of these lengths, each grown by steps; one more is deleted again.
+    fn new(slots: usize, lengths: &[u64]) -> Store {
+        let (mut pool, mut records) = tjornsaki::room(slots);
+        tjornsaki::wipe(&mut pool, &mut records).unwrap();
+        let mut history = Vec::new();
+        for length in lengths {
+            let root = tjornsaki::create(&mut pool, &mut records).unwrap();
+            for part in [3, 2, 1] {
+                tjornsaki::resize(&mut pool, &mut records, root, length / part).unwrap();
+                let bytes = vec![part as u8; (length / part) as usize];
+                tjornsaki::write(&mut pool, &mut records, root, 0, &bytes).unwrap();
+                history.push(pool.clone());
+            }
+        }
+        let gone = tjornsaki::create(&mut pool, &mut records).unwrap();
+        history.push(pool.clone());
+        tjornsaki::delete(&mut pool, &mut records, gone).unwrap();
+        history.push(pool);
+        Store { records, history }
+    }
+
+    fn pool(&self) -> Vec<u8> {
+        self.history[self.history.len() - 1].clone()
+    }
+}
+
+fn small() -> Store {
+    Store::new(16, &[100, 0, 200, 40])
+}
+
+fn large() -> Store {
+    Store::new(200, &[700, 48, 3_000, 577, 90])
+}
+
+/// One change to a pool: foreign bytes, a block moved, or an older one.
+fn spoil(pool: &mut [u8], store: &Store, chance: &mut Chance) {
+    let slots = pool.len() / BLOCK_BYTES;
+    let slot = chance.below(slots) * BLOCK_BYTES;
+    match chance.below(6) {
+        0 => pool[slot + chance.below(BLOCK_BYTES)] = chance.below(256) as u8,
+        1 => pool[slot + 2 + chance.below(2)] = chance.below(14) as u8,
+        2 => pool[slot + 8] = pool[slot + 8].wrapping_add(chance.below(3) as u8),
+        3 => pool[slot + 16 + chance.below(12) * 4] = chance.below(slots + 2) as u8,
+        4 => {
+            let from = chance.below(slots) * BLOCK_BYTES;
+            pool.copy_within(from..from + BLOCK_BYTES, slot);
+        }
+        _ => {
+            let old = &store.history[chance.below(store.history.len())];
+            pool[slot..slot + BLOCK_BYTES].copy_from_slice(&old[slot..slot + BLOCK_BYTES]);
+        }
+    }
+}
+
+/// The walk says no other than the library; answers whether all is well.
+fn agrees(pool: &[u8], record_bytes: &[u8]) -> bool {
+    let records = records(record_bytes);
+    for root in roots(&records) {
+        let walk = Walk::of_blob(pool, &records, root as usize);
+        let length = tjornsaki::length(pool, record_bytes, root);
+        assert_eq!(walk.faults.first().copied(), length.err(), "blob {root}");
+    }
+    let found = Found::new(pool, &records);
+    let audit = tjornsaki::audit(pool, record_bytes);
+    assert_eq!(found.bad.is_empty(), audit.is_ok(), "{audit:?}");
+    let listed = |refusal| found.bad.iter().any(|bad| bad.refusal == refusal);
+    assert!(audit.err().map_or(true, listed), "{audit:?}");
+    for (slot, record) in records.iter().enumerate() {
+        let live = [State::Part, State::Root].contains(&record.state);
+        let known = |block: Block<'_>| {
+            block.marked() && block.slot() == slot as u64 && block.version() == record.version
+        };
+        let bad = found.bad.iter().any(|bad| bad.refusal.slot == Some(slot as u64));
+        assert!(bad || !live || block(pool, slot).map_or(false, known), "slot {slot}");
+        assert!(!bad || !found.cut_off.contains(&(slot as u64)), "slot {slot}");
+    }
+    explains_refused_blobs(pool, record_bytes);
+    audit.is_ok()
+}
+
+/// Each refused blob is hurt by a bad slot; each blob that reads is by none.
+fn explains_refused_blobs(pool: &[u8], record_bytes: &[u8]) {
+    let survey = Survey::new(pool, record_bytes).unwrap();
+    for blob in &survey.blobs {
+        let hurt = survey.bad.iter().any(|bad| bad.hurts.contains(&blob.root));
+        assert_eq!(hurt, blob.length.is_err(), "blob {}", blob.root);
+    }
+}
+
+#[test]
+fn spoilt_pools() {
+    let mut chance = Chance(88172645463325252);
+    for (store, rounds) in [(small(), 20_000), (large(), 4_000)] {
+        assert!(agrees(&store.pool(), &store.records));
+        let mut sound = 0;
+        for _ in 0..rounds {
+            let mut pool = store.pool();
+            for _ in 0..=chance.below(6) {
+                spoil(&mut pool, &store, &mut chance);
+            }
+            sound += usize::from(agrees(&pool, &store.records));
+        }
+        assert!(0 < sound && sound < rounds / 2, "{sound} of {rounds}");
+    }
+}
+
+/// Each slot as it was at some time of the store's own history.
+#[test]
+fn pools_of_all_times() {
+    let mut chance = Chance(362436069);
+    for (store, rounds) in [(small(), 3_000), (large(), 1_000)] {
+        for _ in 0..rounds {
+            let (first, second) =
+                (chance.below(store.history.len()), chance.below(store.history.len()));
+            let mut pool = store.history[first].clone();
+            for slot in (0..pool.len()).step_by(BLOCK_BYTES).filter(|_| chance.below(2) == 0) {
+                let other = &store.history[second][slot..slot + BLOCK_BYTES];
+                pool[slot..slot + BLOCK_BYTES].copy_from_slice(other);
+            }
+            agrees(&pool, &store.records);
+        }
+    }
+}
+
+/// Records that are broken, and records that say something else.
+#[test]
+fn spoilt_records() {
+    let mut chance = Chance(521288629);
+    let store = small();
+    for _ in 0..4_000 {
+        let mut changed = store.records.clone();
+        for _ in 0..=chance.below(3) {
+            let place = chance.below(changed.len() / RECORD_BYTES) * RECORD_BYTES;
+            changed[place + 2 + chance.below(3)] = chance.below(3) as u8;
+        }
+        let audit = tjornsaki::audit(&store.pool(), &changed);
+        let found = Found::new(&store.pool(), &records(&changed));
+        match audit {
+            Err(refusal @ Refusal { number: 2, .. }) => {
+                let broken = found.bad.iter().find(|bad| bad.refusal.number == 2);
+                assert_eq!(broken.map(|bad| bad.refusal), Some(refusal));
+                explains_refused_blobs(&store.pool(), &changed);
+            }
+            _ => drop(agrees(&store.pool(), &changed)),
+        }
+    }
+}
+
+/// The survey of a pool with bytes changed at these places.
+fn with(store: &Store, changes: &[(usize, usize, u8)]) -> Survey {
+    let mut pool = store.pool();
+    changes.iter().for_each(|(slot, place, byte)| pool[slot * BLOCK_BYTES + place] = *byte);
+    Survey::new(&pool, &store.records).unwrap()
+}
+
+fn listed(survey: &Survey) -> Vec<(u64, u64, &[u64])> {
+    let rows = survey.bad.iter();
+    rows.map(|bad| (bad.refusal.slot.unwrap(), bad.refusal.number, &bad.hurts[..])).collect()
+}
+
+/// Blob 0 lies in slots 0 to 3, blob 4 in slot 4, blob 5 in 5 to 10, blob 11 in
+/// slot 11; the others are free.
+#[test]
+fn three_in_one_blob() {
+    let survey = with(&small(), &[(1, 0, 0), (3, 4, 9), (14, 63, 1)]);
+    assert_eq!(listed(&survey), [(1, 4, &[0][..]), (3, 5, &[0]), (14, 9, &[])]);
+    assert_eq!(survey.cut_off, []);
+    assert_eq!(survey.audit, Err(refused(4, 1)));
+}
+
+#[test]
+fn below_a_bad_root() {
+    let survey = with(&small(), &[(0, 8, 1), (2, 0, 0), (11, 0, 0)]);
+    assert_eq!(listed(&survey), [(0, 6, &[0][..]), (2, 4, &[0, 11]), (11, 4, &[11])]);
+    assert_eq!(survey.cut_off, [1, 3]);
+    assert_eq!(survey.bad.iter().map(|bad| bad.cut_off).collect::<Vec<_>>(), [false, true, false]);
+}
+
+/// With nothing bad above it, a part in no row is itself the fault.
+#[test]
+fn a_part_in_no_row() {
+    let mut store = small();
+    let free = 15 * RECORD_BYTES;
+    store.records[free..][..RECORD_BYTES]
+        .copy_from_slice(&[0x52, 0x31, 1, 0, 7, 0, 0, 0, 0, 0, 0, 0]);
+    let survey = with(&store, &[]);
+    assert_eq!(listed(&survey), [(15, 8, &[][..])]);
+    assert_eq!((survey.audit, survey.cut_off), (Err(refused(8, 15)), vec![]));
+}
+
+/// A block in the rows of two blobs: both read, and no change is made.
+#[test]
+fn a_block_in_two_rows() {
+    let survey = with(&small(), &[(5, 16, 1)]);
+    assert_eq!(survey.audit, Err(refused(8, 5)));
+    assert_eq!(listed(&survey), [(5, 8, &[][..])]);
+    assert_eq!(survey.cut_off, [6]);
+    assert!(survey.blobs.iter().all(|blob| blob.length.is_ok()));
+}
