@@ -29,6 +29,11 @@ impl Answer {
         Answer { plain: bytes, fields, failure: None }
     }
 
+    /// What people are shown, as text.
+    pub fn text(&self) -> String {
+        String::from_utf8_lossy(&self.plain).into_owned()
+    }
+
     pub fn print(&self, command: &'static str, json: bool) -> Result<(), Failure> {
         if json {
             print_bytes(format!("{}\n", self.object(command)).as_bytes())
@@ -46,6 +51,11 @@ impl Answer {
             },
         }
     }
+}
+
+/// The line that tells people of a failure.
+pub fn told(failure: &Failure) -> String {
+    format!("tjornsaki: {failure}")
 }
 
 /// Writes to standard output to the last byte. It is written to as a file: Rust's

@@ -78,7 +78,7 @@ fn tell(args: &[OsString], command: Option<&'static str>, failure: &Failure) {
         let object = json::failure(command, failure);
         let _ = answer::print_bytes(format!("{object}\n").as_bytes());
     } else {
-        let _ = writeln!(std::io::stderr(), "tjornsaki: {failure}");
+        let _ = writeln!(std::io::stderr(), "{}", answer::told(failure));
     }
 }
 

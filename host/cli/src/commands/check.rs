@@ -1,16 +1,15 @@
 //! The list of every bad slot.
 
-use super::place;
+use super::Source;
 use crate::answer::Answer;
 use crate::failure::Failure;
 use crate::json::Json;
 use crate::pair::Pair;
 use crate::survey::{Bad, Survey};
 use crate::wording::listed;
-use crate::words::Words;
 
-pub fn check(words: &Words) -> Result<Answer, Failure> {
-    let Pair { pool, records } = place(words)?.load()?;
+pub fn check(source: &dyn Source) -> Result<Answer, Failure> {
+    let Pair { pool, records } = source.load()?;
     let survey = Survey::new(&pool, &records)?;
     let (refused, reads): (Vec<_>, Vec<_>) =
         survey.blobs.iter().partition(|blob| blob.length.is_err());

@@ -1,16 +1,15 @@
 //! The list of blobs.
 
-use super::place;
+use super::Source;
 use crate::answer::Answer;
 use crate::failure::Failure;
 use crate::json::Json;
 use crate::layout::{blocks, leaves, records, roots};
 use crate::pair::Pair;
-use crate::words::Words;
 use tjornsaki::Refusal;
 
-pub fn list(words: &Words) -> Result<Answer, Failure> {
-    let pair = place(words)?.load()?;
+pub fn list(source: &dyn Source) -> Result<Answer, Failure> {
+    let pair = source.load()?;
     check_records(&pair)?;
     let (mut lines, mut rows, mut first) = (vec![], vec![], None);
     for root in roots(&records(&pair.records)) {

@@ -8,26 +8,49 @@ mod reading;
 use crate::answer::Answer;
 use crate::demo;
 use crate::failure::Failure;
-use crate::pair::Place;
+use crate::pair::{Pair, Place};
 use crate::words::Words;
-use std::path::PathBuf;
+use std::path::{Path, PathBuf};
 
 pub fn run(words: &Words) -> Result<Answer, Failure> {
     match words.command.name {
         "init" => changing::init(words),
         "create" => changing::create(words),
-        "ls" => list::list(words),
-        "length" => reading::length(words),
         "put" => changing::put(words),
-        "get" => reading::get(words),
         "write" => changing::write(words),
         "resize" => changing::resize(words),
-        "show" => reading::show(words),
         "delete" => changing::delete(words),
-        "audit" => reading::audit(words),
-        "check" => check::check(words),
-        "draw" => reading::draw(words),
         "demo" => demo::demo(words.value("--out").map(PathBuf::from).as_deref()),
+        _ => ask(words, &place(words)?),
+    }
+}
+
+/// Where a reading command finds its store, and leaves an output.
+pub trait Source {
+    fn load(&self) -> Result<Pair, Failure>;
+    fn save(&self, path: &Path, bytes: &[u8]) -> Result<(), Failure>;
+}
+
+impl Source for Place {
+    fn load(&self) -> Result<Pair, Failure> {
+        Place::load(self)
+    }
+
+    fn save(&self, path: &Path, bytes: &[u8]) -> Result<(), Failure> {
+        Place::save(self, path, bytes)
+    }
+}
+
+/// A reading command, wherever its store lies.
+pub fn ask(words: &Words, source: &dyn Source) -> Result<Answer, Failure> {
+    match words.command.name {
+        "ls" => list::list(source),
+        "length" => reading::length(words, source),
+        "get" => reading::get(words, source),
+        "show" => reading::show(words, source),
+        "audit" => reading::audit(source),
+        "check" => check::check(source),
+        "draw" => reading::draw(words, source),
         name => Err(Failure::internal(format!("nothing is behind the command {name}"))),
     }
 }

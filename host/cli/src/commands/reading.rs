@@ -1,6 +1,6 @@
 //! The commands that read a store.
 
-use super::place;
+use super::Source;
 use crate::answer::Answer;
 use crate::draw;
 use crate::failure::Failure;
@@ -11,20 +11,19 @@ use crate::words::Words;
 use std::path::PathBuf;
 use tjornsaki::{Refusal, BLOCK_BYTES, RECORD_BYTES};
 
-pub fn length(words: &Words) -> Result<Answer, Failure> {
+pub fn length(words: &Words, source: &dyn Source) -> Result<Answer, Failure> {
     let root = words.number(0)?;
-    let pair = place(words)?.load()?;
+    let pair = source.load()?;
     let length = tjornsaki::length(&pair.pool, &pair.records, root)?;
     let fields = vec![("root", Json::Number(root)), ("length", Json::Number(length))];
     Ok(Answer::line(length.to_string(), fields))
 }
 
-pub fn get(words: &Words) -> Result<Answer, Failure> {
+pub fn get(words: &Words, source: &dyn Source) -> Result<Answer, Failure> {
     let root = words.number(0)?;
     let offset = words.number_of("--offset")?.unwrap_or(0);
     let size = words.number_of("--size")?;
-    let place = place(words)?;
-    let bytes = read(&place.load()?, root, offset, size)?;
+    let bytes = read(&source.load()?, root, offset, size)?;
     let size = bytes.len() as u64;
     let mut fields = vec![
         ("root", Json::Number(root)),
@@ -33,7 +32,7 @@ pub fn get(words: &Words) -> Result<Answer, Failure> {
     ];
     match words.file(1) {
         Some(path) => {
-            place.save(&path, &bytes)?;
+            source.save(&path, &bytes)?;
             Ok(Answer::line(format!("{size} bytes to {}", path.display()), fields))
         }
         None => {
@@ -53,9 +52,9 @@ fn read(pair: &Pair, root: u64, offset: u64, size: Option<u64>) -> Result<Vec<u8
     Ok(bytes)
 }
 
-pub fn show(words: &Words) -> Result<Answer, Failure> {
+pub fn show(words: &Words, source: &dyn Source) -> Result<Answer, Failure> {
     let (root, leaf) = (words.number(0)?, words.number(1)?);
-    let Pair { pool, records } = place(words)?.load()?;
+    let Pair { pool, records } = source.load()?;
     let bytes = tjornsaki::show(&pool, &records, root, leaf)?;
     let fields = vec![
         ("root", Json::Number(root)),
@@ -67,23 +66,22 @@ pub fn show(words: &Words) -> Result<Answer, Failure> {
     Ok(Answer::bytes(bytes.to_vec(), fields))
 }
 
-pub fn audit(words: &Words) -> Result<Answer, Failure> {
-    let pair = place(words)?.load()?;
+pub fn audit(source: &dyn Source) -> Result<Answer, Failure> {
+    let pair = source.load()?;
     let live = tjornsaki::audit(&pair.pool, &pair.records)?;
     let slots = (pair.pool.len() / BLOCK_BYTES) as u64;
     let fields = vec![("live", Json::Number(live)), ("slots", Json::Number(slots))];
     Ok(Answer::line(format!("sound: {live} of {slots} slots in use"), fields))
 }
 
-pub fn draw(words: &Words) -> Result<Answer, Failure> {
-    let place = place(words)?;
-    let pair = place.load()?;
+pub fn draw(words: &Words, source: &dyn Source) -> Result<Answer, Failure> {
+    let pair = source.load()?;
     let svg = draw::draw(&pair.pool, &pair.records)?;
     let slots = (pair.records.len() / RECORD_BYTES) as u64;
     let mut fields = vec![("slots", Json::Number(slots))];
     match words.value("--out").filter(|out| *out != "-").map(PathBuf::from) {
         Some(path) => {
-            place.save(&path, svg.as_bytes())?;
+            source.save(&path, svg.as_bytes())?;
             Ok(Answer::line(format!("picture of {slots} slots in {}", path.display()), fields))
         }
         None => {

@@ -84,8 +84,8 @@ impl<'a> Walk<'a> {
         let mut walk = Walk::new(pool, records, reached.to_vec());
         let heights = (0..=HIGHEST_PART).rev().map(Some);
         for height in heights.chain([None]) {
-            for slot in 0..records.len() {
-                let part = records[slot].state == State::Part && !walk.visited[slot];
+            for (slot, record) in records.iter().enumerate() {
+                let part = record.state == State::Part && !walk.visited[slot];
                 let block = if part { block(pool, slot) } else { None };
                 let fits = |block: Block<'_>| match height {
                     Some(height) => walk.known(slot, &block).is_ok() && block.height() == height,
