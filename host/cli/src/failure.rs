@@ -1,5 +1,6 @@
 //! Why a command ended without success, in words and as an exit status.
 
+use crate::reason::Reason;
 use std::fmt;
 use std::io;
 use std::path::Path;
@@ -26,6 +27,8 @@ pub const DENIED: u8 = 77;
 pub enum Failure {
     /// The store said no; the status is the refusal's number.
     Refused(Refusal),
+    /// The same where there is more to say.
+    Explained(Refusal, Reason),
     /// Anything else: a status from 64 on, and the words for it.
     Other(u8, String),
     /// Nobody reads the output any more; nothing is to be said.
@@ -71,7 +74,7 @@ impl Failure {
     /// The exit status.
     pub fn status(&self) -> u8 {
         match self {
-            Failure::Refused(refusal) => refusal.number as u8,
+            Failure::Refused(refusal) | Failure::Explained(refusal, _) => refusal.number as u8,
             Failure::Other(status, _) => *status,
             Failure::Unread => 0,
         }
@@ -88,6 +91,9 @@ impl fmt::Display for Failure {
     fn fmt(&self, out: &mut fmt::Formatter<'_>) -> fmt::Result {
         match self {
             Failure::Refused(refusal) => write!(out, "{refusal}"),
+            Failure::Explained(refusal, reason) => {
+                write!(out, "refused {}: {}", refusal.number, reason.sentence)
+            }
             Failure::Other(_, words) => write!(out, "{words}"),
             Failure::Unread => Ok(()),
         }

@@ -46,10 +46,13 @@ pub fn failure(command: Option<&'static str>, failure: &Failure) -> Json {
         ("command", command.map_or(Json::Null, Json::text)),
         ("status", Json::Number(failure.status().into())),
     ];
-    if let Failure::Refused(refusal) = failure {
+    if let Failure::Refused(refusal) | Failure::Explained(refusal, _) = failure {
         object.push(("refusal", Json::Number(refusal.number)));
         object.push(("words", Json::text(refusal.words())));
         object.push(("slot", Json::slot(refusal.slot)));
+    }
+    if let Failure::Explained(_, reason) = failure {
+        object.extend(reason.facts.iter().map(|(name, fact)| (*name, Json::Number(*fact))));
     }
     object.push(("message", Json::text(failure.to_string())));
     Json::Object(object)

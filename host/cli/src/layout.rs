@@ -25,6 +25,13 @@ pub struct Record {
     pub version: u64,
 }
 
+impl Record {
+    /// At the last version: its block can never be written again.
+    pub fn worn(&self) -> bool {
+        self.version == u64::MAX
+    }
+}
+
 /// The record of each slot.
 pub fn records(bytes: &[u8]) -> Vec<Record> {
     bytes.chunks_exact(RECORD_BYTES).map(record).collect()
@@ -108,6 +115,12 @@ fn number(bytes: &[u8]) -> u64 {
 pub fn roots(records: &[Record]) -> Vec<u64> {
     let slots = (0u64..).zip(records);
     slots.filter(|(_, record)| record.state == State::Root).map(|(slot, _)| slot).collect()
+}
+
+/// How many free slots can still be taken.
+pub fn usable(records: &[Record]) -> u64 {
+    let usable = |record: &&Record| record.state == State::Free && !record.worn();
+    records.iter().filter(usable).count() as u64
 }
 
 /// How many leaves a blob of this length has.

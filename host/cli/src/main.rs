@@ -14,6 +14,7 @@ mod layout;
 mod lock;
 mod log;
 mod pair;
+mod reason;
 mod replace;
 mod survey;
 mod wording;

@@ -3,12 +3,13 @@
 use super::place;
 use crate::answer::Answer;
 use crate::failure::{Failure, NO_INPUT};
-use crate::files::{read, up_to_most};
+use crate::files::{read, up_to_most, MOST_BYTES};
 use crate::json::Json;
-use crate::pair::Pair;
+use crate::pair::{Pair, Place};
+use crate::reason::{explained, Question};
 use crate::words::Words;
 use std::path::{Path, PathBuf};
-use tjornsaki::MOST_SLOTS;
+use tjornsaki::{Refusal, MOST_SLOTS};
 
 /// Slots of a new store where no number is given.
 const SLOTS: u64 = 16;
@@ -34,7 +35,9 @@ pub fn init(words: &Words) -> Result<Answer, Failure> {
 }
 
 pub fn create(words: &Words) -> Result<Answer, Failure> {
-    let root = place(words)?.change(|pair| tjornsaki::create(&mut pair.pool, &mut pair.records))?;
+    let root = change(&place(words)?, Question::default(), |Pair { pool, records }| {
+        tjornsaki::create(pool, records)
+    })?;
     Ok(Answer::line(root.to_string(), vec![("root", Json::Number(root))]))
 }
 
@@ -47,7 +50,9 @@ pub fn put(words: &Words) -> Result<Answer, Failure> {
         (false, file) => input(file, "; `put ROOT --empty` empties a blob")?,
     };
     let length = data.len() as u64;
-    place.change(|Pair { pool, records }| {
+    let or_more = length > MOST_BYTES;
+    let question = Question { or_more, ..Question::resize(root, length) };
+    change(&place, question, |Pair { pool, records }| {
         tjornsaki::resize(pool, records, root, length)?;
         tjornsaki::write(pool, records, root, 0, &data)
     })?;
@@ -59,7 +64,9 @@ pub fn write(words: &Words) -> Result<Answer, Failure> {
     let (root, offset) = (words.number(0)?, words.number(1)?);
     let place = place(words)?;
     let data = input(words.file(2), "")?;
-    place.change(|Pair { pool, records }| tjornsaki::write(pool, records, root, offset, &data))?;
+    change(&place, Question::of(root), |Pair { pool, records }| {
+        tjornsaki::write(pool, records, root, offset, &data)
+    })?;
     let size = data.len() as u64;
     let fields = vec![
         ("root", Json::Number(root)),
@@ -71,16 +78,34 @@ pub fn write(words: &Words) -> Result<Answer, Failure> {
 
 pub fn resize(words: &Words) -> Result<Answer, Failure> {
     let (root, length) = (words.number(0)?, words.number(1)?);
-    place(words)?
-        .change(|Pair { pool, records }| tjornsaki::resize(pool, records, root, length))?;
+    change(&place(words)?, Question::resize(root, length), |Pair { pool, records }| {
+        tjornsaki::resize(pool, records, root, length)
+    })?;
     let fields = vec![("root", Json::Number(root)), ("length", Json::Number(length))];
     Ok(Answer::line(format!("blob {root} has {length} bytes"), fields))
 }
 
 pub fn delete(words: &Words) -> Result<Answer, Failure> {
     let root = words.number(0)?;
-    place(words)?.change(|Pair { pool, records }| tjornsaki::delete(pool, records, root))?;
+    change(&place(words)?, Question::of(root), |Pair { pool, records }| {
+        tjornsaki::delete(pool, records, root)
+    })?;
     Ok(Answer::line(format!("blob {root} is deleted"), vec![("root", Json::Number(root))]))
+}
+
+/// Makes a change; if it is refused, the store says what it knows of the reason.
+fn change<T>(
+    place: &Place,
+    question: Question,
+    call: impl FnOnce(&mut Pair) -> Result<T, Refusal>,
+) -> Result<T, Failure> {
+    let mut reason = None;
+    let done = place.change(|pair| {
+        let done = call(pair);
+        reason = done.as_ref().err().map(|refusal| explained(*refusal, pair, question));
+        done
+    });
+    done.map_err(|failure| reason.unwrap_or(failure))
 }
 
 /// All of a file, or of standard input. It is read before the store is locked,

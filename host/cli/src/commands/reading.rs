@@ -7,6 +7,7 @@ use crate::failure::Failure;
 use crate::json::Json;
 use crate::layout::LEAF_BYTES;
 use crate::pair::Pair;
+use crate::reason::{explained, Question};
 use crate::words::Words;
 use std::path::PathBuf;
 use tjornsaki::{Refusal, BLOCK_BYTES, RECORD_BYTES};
@@ -14,7 +15,8 @@ use tjornsaki::{Refusal, BLOCK_BYTES, RECORD_BYTES};
 pub fn length(words: &Words, source: &dyn Source) -> Result<Answer, Failure> {
     let root = words.number(0)?;
     let pair = source.load()?;
-    let length = tjornsaki::length(&pair.pool, &pair.records, root)?;
+    let length = tjornsaki::length(&pair.pool, &pair.records, root);
+    let length = length.map_err(|refusal| explained(refusal, &pair, Question::of(root)))?;
     let fields = vec![("root", Json::Number(root)), ("length", Json::Number(length))];
     Ok(Answer::line(length.to_string(), fields))
 }
@@ -23,7 +25,9 @@ pub fn get(words: &Words, source: &dyn Source) -> Result<Answer, Failure> {
     let root = words.number(0)?;
     let offset = words.number_of("--offset")?.unwrap_or(0);
     let size = words.number_of("--size")?;
-    let bytes = read(&source.load()?, root, offset, size)?;
+    let pair = source.load()?;
+    let bytes = read(&pair, root, offset, size);
+    let bytes = bytes.map_err(|refusal| explained(refusal, &pair, Question::of(root)))?;
     let size = bytes.len() as u64;
     let mut fields = vec![
         ("root", Json::Number(root)),
@@ -54,8 +58,9 @@ fn read(pair: &Pair, root: u64, offset: u64, size: Option<u64>) -> Result<Vec<u8
 
 pub fn show(words: &Words, source: &dyn Source) -> Result<Answer, Failure> {
     let (root, leaf) = (words.number(0)?, words.number(1)?);
-    let Pair { pool, records } = source.load()?;
-    let bytes = tjornsaki::show(&pool, &records, root, leaf)?;
+    let pair = source.load()?;
+    let bytes = tjornsaki::show(&pair.pool, &pair.records, root, leaf);
+    let bytes = bytes.map_err(|refusal| explained(refusal, &pair, Question::of(root)))?;
     let fields = vec![
         ("root", Json::Number(root)),
         ("leaf", Json::Number(leaf)),

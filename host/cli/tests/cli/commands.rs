@@ -89,7 +89,9 @@ fn resize_fills_with_zeros() {
     folder.run(&["resize", "0", "3"]).gives("blob 0 has 3 bytes\n");
     folder.run(&["resize", "0", "5"]).gives("blob 0 has 5 bytes\n");
     assert_eq!(folder.run(&["get", "0"]).out, [1, 3, 5, 0, 0]);
-    folder.run(&["resize", "0", "1000"]).fails(11, "refused 11: more new blocks");
+    folder
+        .run(&["resize", "0", "1000"])
+        .fails(11, "refused 11: no room, 23 new blocks needed and 15 slots usable");
 }
 
 #[test]
@@ -105,7 +107,7 @@ fn delete_frees_all() {
     let folder = Folder::with_blob("delete");
     folder.run(&["delete", "0"]).gives("blob 0 is deleted\n");
     folder.run(&["audit"]).gives("sound: 0 of 16 slots in use\n");
-    folder.run(&["get", "0"]).fails(3, "refused 3: the named slot is not a root");
+    folder.run(&["get", "0"]).fails(3, "refused 3: slot 0 is not a root; `tjornsaki ls` lists");
     folder.run(&["ls"]).gives("root  length leaves blocks  version\n");
 }
 

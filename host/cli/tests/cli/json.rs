@@ -40,8 +40,13 @@ fn successes() {
 fn refusals() {
     let folder = Folder::with_blob("json_refused");
     let head = r#"{"ok":false,"command":"get","status":3,"refusal":3,"words":"not a root""#;
-    let rest = r#""slot":null,"message":"refused 3: the named slot is not a root"}"#;
-    is(&folder.run(&["get", "9", "--json"]), 3, &format!("{head},{rest}"));
+    let more = r#""slot":null,"root":9,"slots":16,"#;
+    let rest = r#""message":"refused 3: slot 9 is not a root; `tjornsaki ls` lists the roots"}"#;
+    is(&folder.run(&["get", "9", "--json"]), 3, &format!("{head},{more}{rest}"));
+    let head = r#"{"ok":false,"command":"resize","status":11,"refusal":11,"words":"no room","#;
+    let more = r#""slot":null,"needed":20,"usable":12,"#;
+    let rest = r#""message":"refused 11: no room, 20 new blocks needed and 12 slots usable"}"#;
+    is(&folder.run(&["resize", "0", "1000", "--json"]), 11, &format!("{head}{more}{rest}"));
     folder.spoil(2 * 64 + 8, &[1]);
     let slot = r#""status":6,"refusal":6,"words":"rolled back","slot":2,"message":"refused 6: slot 2 was rolled back""#;
     let audit = folder.run(&["audit", "--json"]);

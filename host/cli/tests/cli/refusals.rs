@@ -116,13 +116,68 @@ fn worn() {
 }
 
 #[test]
+fn not_a_root() {
+    let folder = Folder::with_blob("not_a_root");
+    let commands: [&[&str]; 7] = [
+        &["length", "?"],
+        &["get", "?"],
+        &["show", "?", "0"],
+        &["put", "?"],
+        &["write", "?", "0"],
+        &["resize", "?", "5"],
+        &["delete", "?"],
+    ];
+    let beyond = "refused 3: slot 16 is not a root, the store has 16 slots; `tjornsaki ls` lists";
+    let cases = [
+        ("1", "refused 3: slot 1 is not a root; `tjornsaki ls` lists the roots"),
+        ("15", "refused 3: slot 15 is not a root; `tjornsaki ls` lists the roots"),
+        ("16", beyond),
+    ];
+    for (root, message) in cases {
+        for command in commands {
+            let words: Vec<&str> =
+                command.iter().map(|word| if *word == "?" { root } else { word }).collect();
+            folder.run_with(&words, b"x").fails(3, message);
+        }
+    }
+}
+
+/// A store with 4 free slots, one of them worn: what is told to be needed is
+/// what is needed.
+#[test]
+fn room_is_told_as_it_is() {
+    let folder = Folder::with_blob("room_told");
+    folder.run(&["create"]).gives("4\n");
+    folder.run(&["resize", "4", "336"]).gives("blob 4 has 336 bytes\n");
+    let mut records = folder.read("store.records");
+    records[15 * 12 + 4..].fill(255);
+    folder.write("store.records", &records);
+    let lengths = [(144, 4), (192, 5), (240, 6), (241, 7), (576, 13), (577, 16), (6_913, 161)];
+    for (length, blocks) in lengths {
+        let (needed, length) = (blocks - 4, length.to_string());
+        let ended = folder.run(&["resize", "0", &length]);
+        if needed <= 3 {
+            ended.gives(&format!("blob 0 has {length} bytes\n"));
+            folder.run(&["resize", "0", "100"]).gives("blob 0 has 100 bytes\n");
+        } else {
+            let words = format!("no room, {needed} new blocks needed and 3 slots usable\n");
+            ended.fails(11, &words);
+        }
+    }
+}
+
+#[test]
 fn no_room() {
     let folder = Folder::with_store("room", 1);
     folder.run(&["create"]).gives("0\n");
     let before = folder.store();
-    folder.run(&["create"]).fails(11, "refused 11");
-    folder.run_with(&["put", "0"], &[7; 49]).fails(11, "refused 11");
-    folder.run_with(&["put", "0"], &vec![7; 1_000_000]).fails(11, "refused 11");
+    let room = |words: &str| format!("refused 11: no room, {words} needed and 0 slots usable\n");
+    folder.run(&["create"]).fails(11, &room("1 new block"));
+    folder.run_with(&["put", "0"], &[7; 49]).fails(11, &room("2 new blocks"));
+    folder
+        .run_with(&["put", "0"], &vec![7; 1_000_000])
+        .fails(11, &room("at least 1490 new blocks"));
+    folder.run(&["resize", "0", "1000000"]).fails(11, &room("22731 new blocks"));
     folder.run_with(&["write", "0", "0"], &vec![7; 1_000_000]).fails(10, "refused 10");
     assert_eq!(folder.store(), before);
 }
