@@ -25,11 +25,9 @@ pub struct Record {
     pub version: u64,
 }
 
-impl Record {
-    /// At the last version: its block can never be written again.
-    pub fn worn(&self) -> bool {
-        self.version == u64::MAX
-    }
+/// Whether this version is the last: there the slot can never be written again.
+pub fn worn(version: u64) -> bool {
+    version == u64::MAX
 }
 
 /// The record of each slot.
@@ -119,7 +117,7 @@ pub fn roots(records: &[Record]) -> Vec<u64> {
 
 /// How many free slots can still be taken.
 pub fn usable(records: &[Record]) -> u64 {
-    let usable = |record: &&Record| record.state == State::Free && !record.worn();
+    let usable = |record: &&Record| record.state == State::Free && !worn(record.version);
     records.iter().filter(usable).count() as u64
 }
 

@@ -7,6 +7,7 @@ use crate::files::{read, up_to_most, MOST_BYTES};
 use crate::json::Json;
 use crate::pair::{Pair, Place};
 use crate::reason::{explained, Question};
+use crate::wording::counted;
 use crate::words::Words;
 use std::path::{Path, PathBuf};
 use tjornsaki::{Refusal, MOST_SLOTS};
@@ -31,7 +32,7 @@ pub fn init(words: &Words) -> Result<Answer, Failure> {
     let mut pair = Pair { pool, records };
     tjornsaki::wipe(&mut pair.pool, &mut pair.records)?;
     place(words)?.make(pair, force)?;
-    Ok(Answer::line(format!("{slots} free slots"), vec![("slots", Json::Number(slots))]))
+    Ok(Answer::line(counted(slots, "free slot"), vec![("slots", Json::Number(slots))]))
 }
 
 pub fn create(words: &Words) -> Result<Answer, Failure> {
@@ -57,7 +58,7 @@ pub fn put(words: &Words) -> Result<Answer, Failure> {
         tjornsaki::write(pool, records, root, 0, &data)
     })?;
     let fields = vec![("root", Json::Number(root)), ("length", Json::Number(length))];
-    Ok(Answer::line(format!("blob {root} has {length} bytes"), fields))
+    Ok(Answer::line(format!("blob {root} has {}", counted(length, "byte")), fields))
 }
 
 pub fn write(words: &Words) -> Result<Answer, Failure> {
@@ -73,7 +74,7 @@ pub fn write(words: &Words) -> Result<Answer, Failure> {
         ("offset", Json::Number(offset)),
         ("size", Json::Number(size)),
     ];
-    Ok(Answer::line(format!("{size} bytes into blob {root}"), fields))
+    Ok(Answer::line(format!("{} into blob {root}", counted(size, "byte")), fields))
 }
 
 pub fn resize(words: &Words) -> Result<Answer, Failure> {
@@ -82,7 +83,7 @@ pub fn resize(words: &Words) -> Result<Answer, Failure> {
         tjornsaki::resize(pool, records, root, length)
     })?;
     let fields = vec![("root", Json::Number(root)), ("length", Json::Number(length))];
-    Ok(Answer::line(format!("blob {root} has {length} bytes"), fields))
+    Ok(Answer::line(format!("blob {root} has {}", counted(length, "byte")), fields))
 }
 
 pub fn delete(words: &Words) -> Result<Answer, Failure> {

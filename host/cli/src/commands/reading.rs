@@ -8,6 +8,7 @@ use crate::json::Json;
 use crate::layout::LEAF_BYTES;
 use crate::pair::Pair;
 use crate::reason::{explained, Question};
+use crate::wording::counted;
 use crate::words::Words;
 use std::path::PathBuf;
 use tjornsaki::{Refusal, BLOCK_BYTES, RECORD_BYTES};
@@ -37,7 +38,8 @@ pub fn get(words: &Words, source: &dyn Source) -> Result<Answer, Failure> {
     match words.file(1) {
         Some(path) => {
             source.save(&path, &bytes)?;
-            Ok(Answer::line(format!("{size} bytes to {}", path.display()), fields))
+            let words = format!("{} to {}", counted(size, "byte"), path.display());
+            Ok(Answer::line(words, fields))
         }
         None => {
             fields.push(("hex", Json::hex(&bytes)));
@@ -76,7 +78,8 @@ pub fn audit(source: &dyn Source) -> Result<Answer, Failure> {
     let live = tjornsaki::audit(&pair.pool, &pair.records)?;
     let slots = (pair.pool.len() / BLOCK_BYTES) as u64;
     let fields = vec![("live", Json::Number(live)), ("slots", Json::Number(slots))];
-    Ok(Answer::line(format!("sound: {live} of {slots} slots in use"), fields))
+    let slots = counted(slots, "slot");
+    Ok(Answer::line(format!("sound: {live} of {slots} in use"), fields))
 }
 
 pub fn draw(words: &Words, source: &dyn Source) -> Result<Answer, Failure> {
@@ -87,7 +90,8 @@ pub fn draw(words: &Words, source: &dyn Source) -> Result<Answer, Failure> {
     match words.value("--out").filter(|out| *out != "-").map(PathBuf::from) {
         Some(path) => {
             source.save(&path, svg.as_bytes())?;
-            Ok(Answer::line(format!("picture of {slots} slots in {}", path.display()), fields))
+            let words = format!("picture of {} in {}", counted(slots, "slot"), path.display());
+            Ok(Answer::line(words, fields))
         }
         None => {
             fields.push(("svg", Json::text(svg.clone())));

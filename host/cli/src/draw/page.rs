@@ -33,7 +33,8 @@ fn verdict(canvas: &mut Canvas, scene: &Scene, y: i32) -> i32 {
     let mut y = y;
     match scene.audit {
         Ok(live) => {
-            let words = format!("Sound: the audit passes, {live} slots in use.");
+            let slots = counted(live, "slot");
+            let words = format!("Sound: the audit passes, {slots} in use.");
             canvas.text(MARGIN, y, Pen::left(15, GREEN).bold(), &words);
         }
         Err(_) => {
@@ -99,7 +100,8 @@ fn counts(scene: &Scene) -> String {
     let worn = scene.count(|cell| cell.role == Role::Free && cell.worn());
     let live = scene.cells.len() - free - worn;
     let worn = if worn > 0 { format!(", {worn} free but worn") } else { String::new() };
-    format!("{} slots: {live} in use, {free} free{worn}", scene.cells.len())
+    let slots = counted(scene.cells.len() as u64, "slot");
+    format!("{slots}: {live} in use, {free} free{worn}")
 }
 
 fn heading(canvas: &mut Canvas, words: &str, more: &str, y: i32) -> i32 {
@@ -134,9 +136,8 @@ fn blobs(canvas: &mut Canvas, scene: &Scene, top: i32) {
 fn about(blob: &Blob) -> String {
     match blob.length {
         Ok(length) => {
-            let blocks = blocks(leaves(length));
-            let words = if blocks == 1 { "block" } else { "blocks" };
-            format!("{length} bytes, {blocks} {words}")
+            let blocks = counted(blocks(leaves(length)), "block");
+            format!("{}, {blocks}", counted(length, "byte"))
         }
         Err(refusal) => refusal.to_string(),
     }

@@ -1,7 +1,7 @@
 //! What there is to see in a store. The survey says what is bad; blocks are
 //! only read here for the shape of the trees.
 
-use crate::layout::{block, records, Block, Record, State};
+use crate::layout::{self, block, records, Block, Record, State};
 use crate::survey::Survey;
 use tjornsaki::Refusal;
 
@@ -27,9 +27,8 @@ pub struct Cell {
 }
 
 impl Cell {
-    /// At the last version: it can never be written again.
     pub fn worn(&self) -> bool {
-        self.version == u64::MAX
+        layout::worn(self.version)
     }
 }
 

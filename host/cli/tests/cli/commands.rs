@@ -44,6 +44,24 @@ fn the_paper_s_numbers() {
     folder.run(&["audit"]).gives("sound: 2 of 4 slots in use\n");
 }
 
+/// One of a thing is not told as many.
+#[test]
+fn one_of_each() {
+    let folder = Folder::with_store("one", 1);
+    folder.run(&["create"]).gives("0\n");
+    folder.run(&["audit"]).gives("sound: 1 of 1 slot in use\n");
+    folder.run_with(&["put", "0"], b"x").gives("blob 0 has 1 byte\n");
+    folder.run_with(&["write", "0", "0"], b"y").gives("1 byte into blob 0\n");
+    folder.run(&["resize", "0", "1"]).gives("blob 0 has 1 byte\n");
+    folder.run(&["get", "0", "out"]).gives("1 byte to out\n");
+    folder.run(&["draw", "--out", "one.svg"]).gives("picture of 1 slot in one.svg\n");
+    let picture = String::from_utf8(folder.read("one.svg")).unwrap();
+    for words in ["passes, 1 slot in use.", "1 slot: 1 in use, 0 free", "1 byte, 1 block<"] {
+        assert!(picture.contains(words), "{words}");
+    }
+    folder.run(&["get", "1"]).fails(3, "the store has 1 slot;");
+}
+
 #[test]
 fn put_and_get() {
     let folder = Folder::with_blob("put_get");

@@ -74,7 +74,7 @@ impl Folder {
         let folder = Folder::new(name);
         folder
             .run(&["init", "--slots", &slots.to_string()])
-            .gives(&format!("{slots} free slots\n"));
+            .gives(&format!("{slots} free slot{}\n", if slots == 1 { "" } else { "s" }));
         folder
     }
 
