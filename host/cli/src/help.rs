@@ -107,6 +107,13 @@ Goes on where audit stops: lists every bad slot with its refusal and the blobs
 it hurts, then the blobs that read whole and those that are refused. Below a
 bad block nothing is reached; what is there is called cut off, and is bad only
 if it is bad by itself. The exit status is that of audit." },
+    Command { name: "status", words: &[], options: &[], flags: &[],
+        short: "tell how full the store is",
+        long: "\
+Counts slots and blobs, and tells how long a new blob can be. A worn slot is at
+its last version: a free one is never used again, and a blob with one can only
+be read and deleted. All this is by the records alone. The pool is not judged:
+audit and check do that." },
     Command { name: "draw", words: &[], options: &["--out"], flags: &[],
         short: "draw a picture of the store",
         long: "\

@@ -134,6 +134,12 @@ pub fn blocks(leaves: u64) -> u64 {
     }
 }
 
+/// The length of the largest blob that fits into so many slots.
+pub fn largest(slots: u64) -> Option<u64> {
+    let fitting = (1..).take_while(|leaves| blocks(*leaves) <= slots);
+    fitting.last().map(|leaves: u64| leaves * LEAF_BYTES)
+}
+
 fn rounded_up(number: u64, by: u64) -> u64 {
     number / by + u64::from(number % by != 0)
 }
@@ -147,5 +153,14 @@ mod tests {
         let lengths = [0, 48, 49, 576, 577, 6_912, 6_913, 44_976, 44_977];
         let counts = [1, 1, 3, 13, 16, 157, 161, 1_024, 1_025];
         assert_eq!(lengths.map(|length| blocks(leaves(length))), counts);
+    }
+
+    #[test]
+    fn lengths_by_slots() {
+        assert_eq!(largest(0), None);
+        for slots in 1..=1_024 {
+            let length = largest(slots).unwrap();
+            assert!(blocks(leaves(length)) <= slots && slots < blocks(leaves(length + 1)));
+        }
     }
 }

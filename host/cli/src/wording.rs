@@ -6,6 +6,12 @@ pub fn counted(count: u64, noun: &str) -> String {
     format!("{count} {noun}{ending}")
 }
 
+/// A noun with its numbers: slot 1, slots 1 and 3.
+pub fn named(noun: &str, numbers: &[u64]) -> String {
+    let ending = if numbers.len() == 1 { "" } else { "s" };
+    format!("{noun}{ending} {}", listed(numbers, "and"))
+}
+
 /// Numbers in a row with a word before the last: 1, 2 and 3.
 pub fn listed(numbers: &[u64], word: &str) -> String {
     let words: Vec<String> = numbers.iter().map(u64::to_string).collect();
@@ -33,5 +39,7 @@ mod tests {
         let rows: [&[u64]; 4] = [&[], &[4], &[4, 5], &[4, 5, 6]];
         let words = ["none", "4", "4 and 5", "4, 5 and 6"];
         assert_eq!(rows.map(|row| listed(row, "and")), words);
+        assert_eq!(named("slot", &[4]), "slot 4");
+        assert_eq!(named("slot", &[4, 5]), "slots 4 and 5");
     }
 }

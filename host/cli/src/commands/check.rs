@@ -6,7 +6,7 @@ use crate::failure::Failure;
 use crate::json::Json;
 use crate::pair::Pair;
 use crate::survey::{Bad, Survey};
-use crate::wording::listed;
+use crate::wording::{listed, named};
 
 pub fn check(source: &dyn Source) -> Result<Answer, Failure> {
     let Pair { pool, records } = source.load()?;
@@ -17,8 +17,7 @@ pub fn check(source: &dyn Source) -> Result<Answer, Failure> {
         [refused, reads].map(|blobs| blobs.iter().map(|blob| blob.root).collect());
     let mut lines: Vec<String> = survey.bad.iter().map(line).collect();
     if !survey.cut_off.is_empty() {
-        let slots = listed(&survey.cut_off, "and");
-        lines.push(format!("cut off, not bad by themselves: slots {slots}"));
+        lines.push(format!("cut off, but not bad: {}", named("slot", &survey.cut_off)));
     }
     if survey.bad.is_empty() {
         lines.push("no slot is bad".into());
@@ -43,7 +42,7 @@ fn line(Bad { refusal, hurts, cut_off }: &Bad) -> String {
     let blobs = match (hurts.len(), cut_off) {
         (0, false) => "hurts no blob".into(),
         (0, true) => "cut off".into(),
-        (_, false) => format!("hurts blob {}", listed(hurts, "and")),
+        (_, false) => format!("hurts {}", named("blob", hurts)),
         (_, true) => format!("cut off from blob {}", listed(hurts, "or")),
     };
     format!("{refusal}; {blobs}")

@@ -27,7 +27,7 @@ pub fn list(source: &dyn Source) -> Result<Answer, Failure> {
 }
 
 /// Fails if lengths or records are wrong, also where there is no root to ask.
-fn check_records(pair: &Pair) -> Result<(), Refusal> {
+pub fn check_records(pair: &Pair) -> Result<(), Refusal> {
     match tjornsaki::length(&pair.pool, &pair.records, u64::MAX) {
         Err(refusal) if refusal.number < 3 => Err(refusal),
         _ => Ok(()),

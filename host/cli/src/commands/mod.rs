@@ -4,6 +4,7 @@ mod changing;
 mod check;
 mod list;
 mod reading;
+mod status;
 
 use crate::answer::Answer;
 use crate::demo;
@@ -50,6 +51,7 @@ pub fn ask(words: &Words, source: &dyn Source) -> Result<Answer, Failure> {
         "show" => reading::show(words, source),
         "audit" => reading::audit(source),
         "check" => check::check(source),
+        "status" => status::status(source),
         "draw" => reading::draw(words, source),
         name => Err(Failure::internal(format!("nothing is behind the command {name}"))),
     }

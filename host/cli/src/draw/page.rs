@@ -51,7 +51,7 @@ fn verdict(canvas: &mut Canvas, scene: &Scene, y: i32) -> i32 {
     if cut_off > 0 {
         y += 20;
         let slots = counted(cut_off as u64, "slot");
-        let words = format!("Cut off, and not bad by themselves: {slots}.");
+        let words = format!("Cut off, but not bad: {slots}.");
         canvas.text(MARGIN, y, Pen::left(13, FAINT), &words);
     }
     y

@@ -79,7 +79,7 @@ fn below_a_bad_root() {
     let wanted = "\
 refused 6: slot 0 was rolled back; hurts blob 0
 refused 4: slot 2 is spoiled; cut off from blob 0
-cut off, not bad by themselves: slots 1 and 3
+cut off, but not bad: slots 1 and 3
 blobs that read whole: none
 blobs that are refused: 0
 audit: refused 6: slot 0 was rolled back; no change is made until it passes
@@ -89,7 +89,7 @@ audit: refused 6: slot 0 was rolled back; no change is made until it passes
     assert!(found.text().ends_with(",\"cut_off\":[1,3]}\n"), "{found:?}");
     let svg = folder.run(&["draw"]);
     assert!(svg.text().contains("slot 1: leaf, cut off, version"), "{svg:?}");
-    assert!(svg.text().contains("Cut off, and not bad by themselves: 2 slots."));
+    assert!(svg.text().contains("Cut off, but not bad: 2 slots."));
 }
 
 #[test]
@@ -103,7 +103,7 @@ fn broken_records() {
     let found = folder.run(&["check"]);
     assert_eq!(found.status, 2);
     for slot in [5, 9] {
-        let words = format!("refused 2: slot {slot} has a broken record; hurts blob 0 and 4\n");
+        let words = format!("refused 2: slot {slot} has a broken record; hurts blobs 0 and 4\n");
         assert!(found.text().contains(&words), "{found:?}");
     }
     for words in DAMAGE {

@@ -4,7 +4,7 @@ use crate::support::Folder;
 
 const COMMANDS: &[&str] = &[
     "init", "create", "ls", "length", "put", "get", "write", "resize", "show", "delete", "audit",
-    "check", "draw", "demo",
+    "check", "status", "draw", "demo",
 ];
 
 #[test]

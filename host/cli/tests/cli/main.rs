@@ -17,4 +17,5 @@ mod numbers;
 mod owners;
 mod pipes;
 mod refusals;
+mod status;
 mod support;

@@ -155,13 +155,14 @@ pub const CHANGING: [&[&str]; 5] =
     [&["create"], &["put", "0"], &["write", "0", "0"], &["resize", "0", "7"], &["delete", "0"]];
 
 /// Every command that reads a store.
-pub const READING: [&[&str]; 7] = [
+pub const READING: [&[&str]; 8] = [
     &["ls"],
     &["length", "0"],
     &["get", "0"],
     &["show", "0", "0"],
     &["audit"],
     &["check"],
+    &["status"],
     &["draw"],
 ];
 
