@@ -1,6 +1,7 @@
 //! The walk against the library, over spoilt stores by the thousand.
 
-use super::*;
+use super::super::*;
+use super::{large, small, Store};
 use crate::layout::Block;
 use tjornsaki::{BLOCK_BYTES, RECORD_BYTES};
 
@@ -15,57 +16,21 @@ impl Chance {
     }
 }
 
-/// A store, and its pool at every step of its history.
-struct Store {
-    records: Vec<u8>,
-    history: Vec<Vec<u8>>,
-}
-
-impl Store {
-    /// Blobs of these lengths, each grown by steps; one more is deleted again.
-    fn new(slots: usize, lengths: &[u64]) -> Store {
-        let (mut pool, mut records) = tjornsaki::room(slots);
-        tjornsaki::wipe(&mut pool, &mut records).unwrap();
-        let mut history = Vec::new();
-        for length in lengths {
-            let root = tjornsaki::create(&mut pool, &mut records).unwrap();
-            for part in [3, 2, 1] {
-                tjornsaki::resize(&mut pool, &mut records, root, length / part).unwrap();
-                let bytes = vec![part as u8; (length / part) as usize];
-                tjornsaki::write(&mut pool, &mut records, root, 0, &bytes).unwrap();
-                history.push(pool.clone());
-            }
-        }
-        let gone = tjornsaki::create(&mut pool, &mut records).unwrap();
-        history.push(pool.clone());
-        tjornsaki::delete(&mut pool, &mut records, gone).unwrap();
-        history.push(pool);
-        Store { records, history }
-    }
-
-    fn pool(&self) -> Vec<u8> {
-        self.history[self.history.len() - 1].clone()
-    }
-}
-
-fn small() -> Store {
-    Store::new(16, &[100, 0, 200, 40])
-}
-
-fn large() -> Store {
-    Store::new(200, &[700, 48, 3_000, 577, 90])
-}
-
-/// One change to a pool: foreign bytes, a block moved, or an older one.
+/// One change to a pool: foreign bytes, a block cut short, moved, or an older one.
 fn spoil(pool: &mut [u8], store: &Store, chance: &mut Chance) {
     let slots = pool.len() / BLOCK_BYTES;
     let slot = chance.below(slots) * BLOCK_BYTES;
-    match chance.below(6) {
+    match chance.below(7) {
         0 => pool[slot + chance.below(BLOCK_BYTES)] = chance.below(256) as u8,
         1 => pool[slot + 2 + chance.below(2)] = chance.below(14) as u8,
         2 => pool[slot + 8] = pool[slot + 8].wrapping_add(chance.below(3) as u8),
         3 => pool[slot + 16 + chance.below(12) * 4] = chance.below(slots + 2) as u8,
         4 => {
+            let (count, each) = (chance.below(4), if pool[slot + 2] == 0 { 1 } else { 4 });
+            pool[slot + 3] = count as u8;
+            pool[slot + 16 + count * each..slot + BLOCK_BYTES].fill(0);
+        }
+        5 => {
             let from = chance.below(slots) * BLOCK_BYTES;
             pool.copy_within(from..from + BLOCK_BYTES, slot);
         }
@@ -168,56 +133,4 @@ fn spoilt_records() {
             _ => drop(agrees(&store.pool(), &changed)),
         }
     }
-}
-
-/// The survey of a pool with bytes changed at these places.
-fn with(store: &Store, changes: &[(usize, usize, u8)]) -> Survey {
-    let mut pool = store.pool();
-    changes.iter().for_each(|(slot, place, byte)| pool[slot * BLOCK_BYTES + place] = *byte);
-    Survey::new(&pool, &store.records).unwrap()
-}
-
-fn listed(survey: &Survey) -> Vec<(u64, u64, &[u64])> {
-    let rows = survey.bad.iter();
-    rows.map(|bad| (bad.refusal.slot.unwrap(), bad.refusal.number, &bad.hurts[..])).collect()
-}
-
-/// Blob 0 lies in slots 0 to 3, blob 4 in slot 4, blob 5 in 5 to 10, blob 11 in
-/// slot 11; the others are free.
-#[test]
-fn three_in_one_blob() {
-    let survey = with(&small(), &[(1, 0, 0), (3, 4, 9), (14, 63, 1)]);
-    assert_eq!(listed(&survey), [(1, 4, &[0][..]), (3, 5, &[0]), (14, 9, &[])]);
-    assert_eq!(survey.cut_off, []);
-    assert_eq!(survey.audit, Err(refused(4, 1)));
-}
-
-#[test]
-fn below_a_bad_root() {
-    let survey = with(&small(), &[(0, 8, 1), (2, 0, 0), (11, 0, 0)]);
-    assert_eq!(listed(&survey), [(0, 6, &[0][..]), (2, 4, &[0, 11]), (11, 4, &[11])]);
-    assert_eq!(survey.cut_off, [1, 3]);
-    assert_eq!(survey.bad.iter().map(|bad| bad.cut_off).collect::<Vec<_>>(), [false, true, false]);
-}
-
-/// With nothing bad above it, a part in no row is itself the fault.
-#[test]
-fn a_part_in_no_row() {
-    let mut store = small();
-    let free = 15 * RECORD_BYTES;
-    store.records[free..][..RECORD_BYTES]
-        .copy_from_slice(&[0x52, 0x31, 1, 0, 7, 0, 0, 0, 0, 0, 0, 0]);
-    let survey = with(&store, &[]);
-    assert_eq!(listed(&survey), [(15, 8, &[][..])]);
-    assert_eq!((survey.audit, survey.cut_off), (Err(refused(8, 15)), vec![]));
-}
-
-/// A block in the rows of two blobs: both read, and no change is made.
-#[test]
-fn a_block_in_two_rows() {
-    let survey = with(&small(), &[(5, 16, 1)]);
-    assert_eq!(survey.audit, Err(refused(8, 5)));
-    assert_eq!(listed(&survey), [(5, 8, &[][..])]);
-    assert_eq!(survey.cut_off, [6]);
-    assert!(survey.blobs.iter().all(|blob| blob.length.is_ok()));
 }
