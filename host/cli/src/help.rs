@@ -106,7 +106,8 @@ slots in use. It stops at the first bad slot; `check` lists them all." },
 Goes on where audit stops: lists every bad slot with its refusal and the blobs
 it hurts, then the blobs that read whole and those that are refused. Below a
 bad block nothing is reached; what is there is called cut off, and is bad only
-if it is bad by itself. The exit status is that of audit." },
+if it is bad by itself. Like audit it cannot know forged bytes under a right
+header. The exit status is that of audit." },
     Command { name: "status", words: &[], options: &[], flags: &[],
         short: "tell how full the store is",
         long: "\

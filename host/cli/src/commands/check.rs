@@ -20,7 +20,7 @@ pub fn check(source: &dyn Source) -> Result<Answer, Failure> {
         lines.push(format!("cut off, but not bad: {}", named("slot", &survey.cut_off)));
     }
     if survey.bad.is_empty() {
-        lines.push("no slot is bad".into());
+        lines.push("no bad slot is found".into());
     }
     lines.push(format!("blobs that read whole: {}", listed(&reads, "and")));
     if let Err(refusal) = survey.audit {

@@ -25,7 +25,7 @@ const DAMAGE: [&str; 4] = [
 fn a_sound_store() {
     let folder = Folder::with_blob("check_sound");
     folder.run(&["create"]).gives("4\n");
-    folder.run(&["check"]).gives("no slot is bad\nblobs that read whole: 0 and 4\n");
+    folder.run(&["check"]).gives("no bad slot is found\nblobs that read whole: 0 and 4\n");
     let rest = r#""bad":[],"reads":[0,4],"refused":[],"cut_off":[]}"#;
     let object = format!("{{\"ok\":true,\"command\":\"check\",{rest}\n");
     folder.run(&["check", "--json"]).gives(&object);

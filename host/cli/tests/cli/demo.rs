@@ -69,7 +69,7 @@ fn no_refusal_is_only_told() {
     }
     let written = folder.run(&["demo", "--out", "files"]);
     assert_eq!(written.text(), demo.text());
-    let slots = "its root in slot 0 and its lines in slots 1, 2, 3 and 5. Slot 4\nheld";
+    let slots = "its root in slot 0 and its lines in slots 1 to 3 and 5. Slot 4\nheld";
     assert!(demo.text().contains(slots));
     let picture = String::from_utf8(folder.read("files/night-0.svg")).unwrap();
     let roles = ["root", "leaf", "leaf", "leaf", "free", "leaf", "free", "free"];
