@@ -14,8 +14,8 @@ use std::process::Command;
 
 const PLACE: [&str; 4] = ["--records", "safe/records", "--pool", "carrier/pool"];
 const SIDES: [&str; 2] = ["safe", "carrier"];
-const READS: [&[&str]; 5] =
-    [&["ls"], &["length", "0"], &["get", "0"], &["show", "0", "0"], &["audit"]];
+const READS: [&[&str]; 6] =
+    [&["ls"], &["length", "0"], &["get", "0"], &["show", "0", "0"], &["audit"], &["check"]];
 
 /// What the kernel does for a program's memory, threads and signals, and when it
 /// is done with a file: nothing in a file hangs on it.
@@ -36,18 +36,24 @@ fn is_in(list: &str, call: &str) -> bool {
 /// All files of both sides.
 type Files = BTreeMap<String, Vec<u8>>;
 
+/// How two commands end: what blob 0 holds, and every slot and version.
+type Look = [(i32, Vec<u8>); 2];
+
 struct Trial {
     folder: Folder,
     words: Vec<&'static str>,
     start: Files,
     /// What is found before the change and after it.
-    before: [(i32, Vec<u8>); 2],
-    after: [(i32, Vec<u8>); 2],
+    before: Look,
+    after: Look,
     /// Every content that a file on the carrier's side had up to this step. A
     /// change is killed at one step after the other, so that none is left out.
     kept: BTreeSet<Vec<u8>>,
     /// Records and contents that were tried.
     tried: BTreeSet<(Vec<u8>, Vec<u8>)>,
+    /// What was found in all these files, and what the next change left of them:
+    /// the same files are not tried again.
+    seen: BTreeMap<Files, (Look, Files)>,
 }
 
 fn able() -> bool {
@@ -67,9 +73,9 @@ impl Trial {
         folder.write("first", b"what was never stored");
         folder.write("second", b"what is truly stored!");
         let words = [words, &PLACE].concat();
-        let (kept, tried) = (BTreeSet::new(), BTreeSet::new());
+        let (kept, tried, seen) = (BTreeSet::new(), BTreeSet::new(), BTreeMap::new());
         let (start, before, after) = (Files::new(), Default::default(), Default::default());
-        let mut trial = Trial { folder, words, start, before, after, kept, tried };
+        let mut trial = Trial { folder, words, start, before, after, kept, tried, seen };
         for command in made {
             assert_eq!(trial.run(command).status, 0);
             trial.kept.extend(trial.carried());
@@ -83,8 +89,7 @@ impl Trial {
         self.folder.run(&[command, &PLACE].concat())
     }
 
-    /// What is found: the bytes of blob 0, and every slot and version.
-    fn look(&self) -> [(i32, Vec<u8>); 2] {
+    fn look(&self) -> Look {
         [["get", "0"].as_ref(), &["draw"]].map(|command| {
             let found = self.run(command);
             (found.status, found.out)
@@ -112,10 +117,10 @@ impl Trial {
         files.map(|(_, bytes)| bytes).collect()
     }
 
-    /// Both sides again as they were at the start.
-    fn restore(&self) {
+    /// Leaves these files on both sides, and no others.
+    fn lay(&self, files: &Files) {
         self.files().keys().for_each(|name| fs::remove_file(self.folder.file(name)).unwrap());
-        self.start.iter().for_each(|(name, bytes)| self.folder.write(name, bytes));
+        files.iter().for_each(|(name, bytes)| self.folder.write(name, bytes));
     }
 
     /// Runs the change under strace with these words.
@@ -155,21 +160,30 @@ impl Trial {
         steps
     }
 
-    /// The change with one fault; then the store is as before it or as after it.
-    /// Answers how the change ended, and how a reading command.
-    fn with_fault(&mut self, fault: &str) -> (i32, i32) {
-        self.restore();
+    /// The change with one fault; then the store is as before it or as after it,
+    /// and the next change goes well. Answers whether the change failed, and what
+    /// lay on the carrier's side before the next one.
+    fn with_fault(&mut self, fault: &str) -> (bool, Vec<Vec<u8>>) {
+        self.lay(&self.start);
         let ended = self.traced(&["-o", "/dev/null", "-e", &format!("inject={fault}")]);
-        let found = self.look();
-        let [before, after] = [self.before == found, self.after == found];
+        let (files, carried) = (self.files(), self.carried());
+        if !self.seen.contains_key(&files) {
+            let found = self.look();
+            self.go_on(found[0].0);
+            self.seen.insert(files.clone(), (found, self.files()));
+        }
+        let (found, left) = &self.seen[&files];
+        let [before, after] = [self.before == *found, self.after == *found];
         assert!(before || after, "{fault}: {ended:?}: {found:?}");
         assert!(ended.status != 0 || after, "{fault}: {ended:?}");
         let told = ended.err.contains("the change is made");
         assert!(ended.status <= 0 || told == (after && !before), "{fault}: {ended:?}");
-        (ended.status, found[0].0)
+        self.lay(left);
+        (ended.status != 0, carried)
     }
 
-    /// The next change, which finds and leaves a whole store.
+    /// The next change, which finds and leaves a whole store; `status` is that of
+    /// a reading command before it.
     fn go_on(&self, status: i32) {
         if status == 66 {
             assert_eq!(self.run(&["init"]).status, 0);
@@ -219,19 +233,17 @@ fn at_every_step(name: &str, made: &[&[&str]], words: &[&'static str]) {
             if what.ends_with("KILL") && !is_in(CHANGES, call) {
                 continue;
             }
-            let (status, read) = trial.with_fault(&format!("{call}:{what}:when={nth}"));
-            failures += usize::from(status != 0);
-            let carried = trial.carried();
+            let (failed, carried) = trial.with_fault(&format!("{call}:{what}:when={nth}"));
+            failures += usize::from(failed);
             if what.ends_with("KILL") {
                 trial.kept.extend(carried.clone());
             }
-            trial.go_on(read);
             trial.hand_back(carried);
         }
     }
-    println!("{} steps, {failures} failures, {} handed back", steps.len(), trial.tried.len());
-    assert!(steps.len() >= 30 && failures >= 40, "{} steps, {failures} failures", steps.len());
-    assert!(trial.tried.len() >= 2, "{} files handed back", trial.tried.len());
+    let counts = (steps.len(), failures, trial.seen.len(), trial.tried.len());
+    println!("{counts:?}: steps, failures, kinds of files left, files handed back");
+    assert!(counts.0 >= 30 && counts.1 >= 40 && counts.2 >= 5 && counts.3 >= 2, "{counts:?}");
 }
 
 const STORE: [&[&str]; 3] = [&["init"], &["create"], &["resize", "0", "21"]];
