@@ -24,6 +24,11 @@ impl Command {
     pub fn delivers(&self) -> bool {
         ["get", "show"].contains(&self.name)
     }
+
+    /// Its name and its words.
+    pub fn usage(&self) -> String {
+        format!("{} {}", self.name, [self.words, &["[OPTIONS]"]].concat().join(" "))
+    }
 }
 
 const FILE: &str = "[FILE|-]";
@@ -190,10 +195,8 @@ Exit status:
 pub fn help(command: Option<&Command>) -> String {
     match command {
         Some(command) => {
-            let mut usage = vec!["Usage: tjornsaki", command.name];
-            usage.extend(command.words);
-            let usage = usage.join(" ");
-            format!("{usage} [OPTIONS]\n\n{}\n{EVERYWHERE}", command.long)
+            let usage = command.usage();
+            format!("Usage: tjornsaki {usage}\n\n{}\n{EVERYWHERE}", command.long)
         }
         None => {
             let line = |command: &Command| format!("  {:8} {}\n", command.name, command.short);

@@ -3,6 +3,7 @@
 
 mod answer;
 mod commands;
+mod completion;
 mod demo;
 mod draw;
 mod failure;
@@ -13,6 +14,7 @@ mod kernel;
 mod layout;
 mod lock;
 mod log;
+mod manual;
 mod pair;
 mod reason;
 mod replace;
@@ -45,6 +47,9 @@ fn main() -> ExitCode {
 type Told = (Option<&'static str>, Failure);
 
 fn run(args: &[OsString]) -> Result<u8, Told> {
+    if let Some(text) = page(args) {
+        return print(&text);
+    }
     let asked = take_apart(args).map_err(|failure| (None, failure))?;
     let words = match asked {
         Asked::Run(words) => words,
@@ -64,6 +69,15 @@ fn run(args: &[OsString]) -> Result<u8, Told> {
     };
     printed.map_err(made).map_err(told)?;
     Ok(answer.failure.map_or(0, |failure| failure.status()))
+}
+
+/// A page that is made from the table of commands, for `make install`.
+fn page(args: &[OsString]) -> Option<String> {
+    match args {
+        [word] if word == "--manual" => Some(manual::manual()),
+        [word, shell] if word == "--completion" && shell == "bash" => Some(completion::bash()),
+        _ => None,
+    }
 }
 
 fn print(text: &str) -> Result<u8, Told> {

@@ -8,7 +8,7 @@ use std::path::PathBuf;
 use std::time::Duration;
 
 /// Options of every command, each with a value.
-const EVERYWHERE: [&str; 3] = ["--pool", "--records", "--wait"];
+pub const EVERYWHERE: [&str; 3] = ["--pool", "--records", "--wait"];
 
 /// A command with its words and options.
 pub struct Words {

@@ -2,7 +2,7 @@
 
 use crate::support::Folder;
 
-const COMMANDS: &[&str] = &[
+pub const COMMANDS: &[&str] = &[
     "init", "create", "ls", "length", "put", "get", "write", "resize", "show", "delete", "audit",
     "check", "status", "draw", "demo",
 ];

@@ -15,6 +15,7 @@ mod late;
 mod locks;
 mod numbers;
 mod owners;
+mod pages;
 mod pipes;
 mod refusals;
 mod status;
