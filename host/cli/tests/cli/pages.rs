@@ -43,7 +43,7 @@ fn the_manual_is_one_that_man_can_show() {
     groff.args(["-man", "-Tutf8", "-ww"]).arg(folder.file("page"));
     let shown = groff.output().unwrap();
     assert_eq!((shown.status.code(), String::from_utf8_lossy(&shown.stderr)), (Some(0), "".into()));
-    assert!(String::from_utf8_lossy(&shown.stdout).contains("any bytes (all that follow)"));
+    assert!(String::from_utf8_lossy(&shown.stdout).contains("COMMAND [WORDS] [OPTIONS]"));
 }
 
 /// What bash offers for the last of these words, in order.
