@@ -156,24 +156,25 @@ Options of every command:
 ";
 
 const MORE: &str = "
-What it is good for:
-  The pool may lie on rented storage. Every block that a command reads is held
-  against the records: its slot, its version, and its place in the blob. So a
-  block of the store's own past, old, moved or brought back, never passes.
-What it does not notice:
-  It keeps no checksum of a block's bytes. Payload that was forged or flipped
-  under a right head passes, and so does the pool of another store that is at
-  the same versions: sign or encrypt the pool where somebody might do that.
-  If pool and records are put back together, no one can tell: keep the records
-  where nobody else writes.
+What it notices. The pool may lie on rented storage. Every block that a command
+reads is held against the records: its slot, its version, and its place in the
+blob. So a block of the store's own past, old, moved or brought back, never
+passes.
 
-A changing command first writes the new records and the new pool into one file
-beside the records (.tj-log). With that it is made; no byte of it is on the
-pool's side before. Then it replaces pool and records, and the log goes. If it
-fails or the power does, the store is as before the log was there, or as the
-log says: commands read from it, and the next change carries it on. Owner and
-mode of the files are kept. While a command runs, the store is locked (.tj-lock
-stays; it is empty). Names with .tj- in them are the store's own.
+What it does not notice. It keeps no checksum of a block's bytes. Payload that
+was forged or flipped under a right head passes, and so does the pool of another
+store that is at the same versions: sign or encrypt the pool where somebody
+might do that. If pool and records are put back together, no one can tell: keep
+the records where nobody else writes.
+
+How a change is made. A changing command first writes the new records and the
+new pool into one file beside the records (.tj-log). With that it is made; no
+byte of it is on the pool's side before. Then it replaces pool and records, and
+the log goes. If it fails or the power does, the store is as before the log was
+there, or as the log says: commands read from it, and the next change carries it
+on. Owner and mode of the files are kept. While a command runs, the store is
+locked (.tj-lock stays; it is empty). Names with .tj- in them are the store's
+own.
 
 Exit status:
   0         done
