@@ -11,6 +11,7 @@ extern "C" {
 
 const SHARED: i32 = 1;
 const ALONE: i32 = 2;
+const FREE: i32 = 8;
 
 /// Locks the store as another command would, until the file is dropped.
 fn lock(folder: &Folder, how: i32) -> File {
@@ -32,7 +33,8 @@ fn a_changing_command_keeps_all_others_out() {
     let words = ["init", "--force", "--forget-history", "--wait=0"];
     folder.run(&words).fails(75, "locked");
     assert_eq!(folder.store(), before);
-    drop(held);
+    // A program that another test starts at this moment may have the file too.
+    assert_eq!(unsafe { flock(held.as_raw_fd(), FREE) }, 0);
     folder.run(&["create"]).gives("4\n");
 }
 
