@@ -46,10 +46,9 @@ fn the_manual_is_one_that_man_can_show() {
     assert!(String::from_utf8_lossy(&shown.stdout).contains("COMMAND [WORDS] [OPTIONS]"));
 }
 
-/// What bash offers for the last of these words, in order.
+/// What bash offers for the last of these words, sorted.
 fn offered(folder: &Folder, words: &[&str]) -> Vec<String> {
-    folder.write("completion", &folder.run(&["--completion", "bash"]).out);
-    let script = r#". ./completion && COMP_WORDS=("$@") COMP_CWORD=$(($# - 1)) && rm completion &&
+    let script = r#". ./completion && COMP_WORDS=("$@") COMP_CWORD=$(($# - 1)) &&
         _tjornsaki && printf '%s\n' "${COMPREPLY[@]}""#;
     let mut bash = Command::new("bash");
     bash.args(["-euc", script, "bash", "tjornsaki"]).args(words).current_dir(&folder.path);
@@ -59,7 +58,10 @@ fn offered(folder: &Folder, words: &[&str]) -> Vec<String> {
         (Some(0), "".into())
     );
     let lines = String::from_utf8(output.stdout).unwrap();
-    lines.lines().filter(|line| !line.is_empty()).map(String::from).collect()
+    let mut found: Vec<_> =
+        lines.lines().filter(|line| !line.is_empty()).map(String::from).collect();
+    found.sort();
+    found
 }
 
 #[test]
@@ -69,6 +71,7 @@ fn bash_completes_commands_options_and_files() {
     }
     let folder = Folder::new("completion");
     folder.write("a b", b"");
+    folder.write("completion", &folder.run(&["--completion", "bash"]).out);
     let cases: &[(&[&str], &[&str])] = &[
         (&["re"], &["resize"]),
         (&["--json", "re"], &["resize"]),
@@ -79,22 +82,23 @@ fn bash_completes_commands_options_and_files() {
         (&["get", "0", "--re"], &["--records"]),
         (&["length", "--of"], &[]),
         (&["--vers"], &["--version"]),
-        (&["get", "0", ""], &["a b"]),
+        (&["get", "0", "a"], &["a b"]),
         (&["length", ""], &[]),
         (&["ls", "--pool", "a"], &["a b"]),
-        (&["ls", "--pool", "="], &["a b"]),
+        (&["ls", "--pool", "="], &["a b", "completion"]),
         (&["ls", "--pool", "=", "a"], &["a b"]),
         (&["init", "--slots", ""], &[]),
     ];
     for (words, wanted) in cases {
         assert_eq!(offered(&folder, words), *wanted, "{words:?}");
     }
+    let commands = offered(&folder, &[""]);
     for command in COMMANDS {
         let help = folder.run(&[command, "--help"]);
         let found = offered(&folder, &[command, "--"]);
         for option in options(help.text()) {
             assert!(found.contains(&format!("--{option}")), "{command}: {option} in {found:?}");
         }
-        assert!(offered(&folder, &[""]).contains(&command.to_string()), "{command}");
+        assert!(commands.contains(&command.to_string()), "{command}");
     }
 }
