@@ -21,6 +21,12 @@ fn lock(folder: &Folder, how: i32) -> File {
     file
 }
 
+/// Lets go of the lock by name: a program that another test starts at this moment
+/// may have the file too.
+fn free(file: &File) {
+    assert_eq!(unsafe { flock(file.as_raw_fd(), FREE) }, 0);
+}
+
 #[test]
 fn a_changing_command_keeps_all_others_out() {
     let folder = Folder::with_blob("locked");
@@ -33,8 +39,7 @@ fn a_changing_command_keeps_all_others_out() {
     let words = ["init", "--force", "--forget-history", "--wait=0"];
     folder.run(&words).fails(75, "locked");
     assert_eq!(folder.store(), before);
-    // A program that another test starts at this moment may have the file too.
-    assert_eq!(unsafe { flock(held.as_raw_fd(), FREE) }, 0);
+    free(&held);
     folder.run(&["create"]).gives("4\n");
 }
 
@@ -57,7 +62,7 @@ fn waiting_for_the_lock() {
     let mut command = folder.command();
     let waiting = command.args(["create", "--wait", "60"]).stdout(Stdio::piped()).spawn().unwrap();
     std::thread::sleep(std::time::Duration::from_millis(100));
-    drop(held);
+    free(&held);
     assert_eq!(waiting.wait_with_output().unwrap().stdout, b"4\n");
 }
 
@@ -85,7 +90,7 @@ fn a_second_of_patience() {
     let mut command = folder.command();
     let waiting = command.args(["length", "0"]).stdout(Stdio::piped()).spawn().unwrap();
     std::thread::sleep(std::time::Duration::from_millis(100));
-    drop(held);
+    free(&held);
     assert_eq!(waiting.wait_with_output().unwrap().stdout, b"100\n");
 }
 
@@ -101,9 +106,9 @@ fn a_lock_file_that_goes() {
     std::fs::remove_file(folder.file("store.records.tj-lock")).unwrap();
     std::fs::write(folder.file("store.records.tj-lock"), b"").unwrap();
     let other = lock(&folder, ALONE);
-    drop(held);
+    free(&held);
     std::thread::sleep(std::time::Duration::from_millis(100));
     assert_eq!(folder.read("store.pool")[4 * 64], 0);
-    drop(other);
+    free(&other);
     assert_eq!(waiting.wait_with_output().unwrap().stdout, b"4\n");
 }
