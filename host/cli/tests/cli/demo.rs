@@ -91,6 +91,8 @@ fn its_files_can_be_tried() {
     audit("1").fails(6, "refused 6: slot 2 was rolled back");
     audit("2").fails(5, "refused 5: slot 3 was moved");
     audit("3").fails(9, "refused 9: slot 4 was reintroduced");
+    let shown_in_readme = include_bytes!("../../../../docs/night.svg");
+    assert_eq!(folder.read("a/b/night-1.svg"), shown_in_readme);
     for (night, words) in [("1", "6 rolled back"), ("2", "5 moved"), ("3", "9 reintroduced")] {
         let picture = folder.read(&format!("a/b/night-{night}.svg"));
         assert!(String::from_utf8(picture).unwrap().contains(words));
