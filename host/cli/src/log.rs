@@ -23,7 +23,7 @@ use tjornsaki::{BLOCK_BYTES, RECORD_BYTES};
 const MARK: &[u8; 16] = b"tjornsaki log 1\n";
 const HEAD: usize = 32;
 
-/// No log is longer, with a path of this program's and the kernel's length.
+/// No log is longer: records and path together are shorter than a pool can be.
 pub const MOST_LOG: u64 = 2 * MOST_BYTES;
 
 /// A change that waits to be carried to the pool.
@@ -55,8 +55,8 @@ impl Log {
             tjornsaki::audit(pool, records).is_ok()
         });
         log.ok_or_else(|| {
-            let words =
-                "is no log of this program's; without it, the store is as the other files say";
+            let words = "is no log that this version knows, or it is damaged: while it is there, \
+                         nothing is read or changed";
             Failure::Other(BROKEN, format!("{} {words}", path.display()))
         })
     }

@@ -182,7 +182,7 @@ fn what_is_no_log_is_left_alone() {
     cut.folder.write(LOG, b"notes of somebody");
     let before = (cut.folder.names(), cut.folder.store());
     for command in READING.iter().chain(&CHANGING) {
-        cut.folder.run(command).fails(74, "store.records.tj-log is no log");
+        cut.folder.run(command).fails(74, "store.records.tj-log is no log that this version knows");
     }
     assert_eq!(cut.folder.read(LOG), b"notes of somebody");
     assert_eq!((cut.folder.names(), cut.folder.store()), before);
