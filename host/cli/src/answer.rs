@@ -15,18 +15,31 @@ pub struct Answer {
     fields: Vec<(&'static str, Json)>,
     /// A failure that comes with the answer, and gives the status.
     pub failure: Option<Failure>,
+    /// What is done, whether or not the answer gets out.
+    done: Option<&'static str>,
+    /// Whether it is a failure if nobody reads the answer.
+    needed: bool,
 }
 
 impl Answer {
     /// A line for people, and the fields for machines.
     pub fn line(words: impl Into<String>, fields: Vec<(&'static str, Json)>) -> Answer {
-        let words = words.into() + "\n";
-        Answer { plain: words.into_bytes(), fields, failure: None }
+        Answer::bytes((words.into() + "\n").into_bytes(), fields)
     }
 
     /// Bytes as they are, and the fields for machines.
     pub fn bytes(bytes: Vec<u8>, fields: Vec<(&'static str, Json)>) -> Answer {
-        Answer { plain: bytes, fields, failure: None }
+        Answer { plain: bytes, fields, failure: None, done: None, needed: false }
+    }
+
+    /// The same for an answer that somebody has to read.
+    pub fn needed(self) -> Answer {
+        Answer { needed: true, ..self }
+    }
+
+    /// The same with what is done.
+    pub fn done(self, done: &'static str) -> Answer {
+        Answer { done: Some(done), ..self }
     }
 
     /// What people are shown, as text.
@@ -34,12 +47,20 @@ impl Answer {
         String::from_utf8_lossy(&self.plain).into_owned()
     }
 
-    pub fn print(&self, command: &'static str, json: bool) -> Result<(), Failure> {
-        if json {
+    /// Prints it, and answers the status.
+    pub fn print(self, command: &'static str, json: bool) -> Result<u8, Failure> {
+        let printed = if json {
             print_bytes(format!("{}\n", self.object(command)).as_bytes())
         } else {
             print_bytes(&self.plain)
+        };
+        match (printed, self.done) {
+            (Err(Failure::Unread), _) if !self.needed => (),
+            (Err(failure), Some(done)) => return Err(failure.after(done)),
+            (Err(failure), None) => return Err(failure.or_unread()),
+            (Ok(()), _) => (),
         }
+        Ok(self.failure.map_or(0, |failure| failure.status()))
     }
 
     fn object(&self, command: &'static str) -> Json {

@@ -23,6 +23,8 @@ pub const LOCKED: u8 = 75;
 /// A file may not be read or written.
 pub const DENIED: u8 = 77;
 
+const UNREAD: &str = "nobody reads standard output to its end";
+
 #[derive(Debug)]
 pub enum Failure {
     /// The store said no; the status is the refusal's number.
@@ -31,6 +33,8 @@ pub enum Failure {
     Explained(Refusal, Reason),
     /// Anything else: a status from 64 on, and the words for it.
     Other(u8, String),
+    /// The same, but what was asked for is done, and need not be tried again.
+    Done(u8, String),
     /// Nobody reads the output any more; nothing is to be said.
     Unread,
 }
@@ -71,11 +75,28 @@ impl Failure {
         }
     }
 
+    /// The same, after what was asked for is done.
+    pub fn after(self, done: &str) -> Failure {
+        match self {
+            Failure::Other(status, words) => Failure::Done(status, format!("{words}; {done}")),
+            Failure::Unread => Failure::Done(BROKEN, format!("{UNREAD}; {done}")),
+            other => other,
+        }
+    }
+
+    /// The same where it matters that somebody reads the output.
+    pub fn or_unread(self) -> Failure {
+        match self {
+            Failure::Unread => Failure::Other(BROKEN, UNREAD.into()),
+            other => other,
+        }
+    }
+
     /// The exit status.
     pub fn status(&self) -> u8 {
         match self {
             Failure::Refused(refusal) | Failure::Explained(refusal, _) => refusal.number as u8,
-            Failure::Other(status, _) => *status,
+            Failure::Other(status, _) | Failure::Done(status, _) => *status,
             Failure::Unread => 0,
         }
     }
@@ -94,7 +115,7 @@ impl fmt::Display for Failure {
             Failure::Explained(refusal, reason) => {
                 write!(out, "refused {}: {}", refusal.number, reason.sentence)
             }
-            Failure::Other(_, words) => write!(out, "{words}"),
+            Failure::Other(_, words) | Failure::Done(_, words) => write!(out, "{words}"),
             Failure::Unread => Ok(()),
         }
     }

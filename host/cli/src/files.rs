@@ -7,17 +7,21 @@ use std::ffi::OsString;
 use std::fs::{self, File, Metadata, OpenOptions, Permissions};
 use std::io::{self, Read, Write};
 use std::os::unix::ffi::OsStrExt;
-use std::os::unix::fs::{MetadataExt, PermissionsExt};
+use std::os::unix::fs::{MetadataExt, OpenOptionsExt, PermissionsExt};
 use std::path::{Path, PathBuf};
 
 /// No file of a store, and no input that fits into one, is longer. What is
 /// longer is read up to one byte more, which the store then refuses.
 pub const MOST_BYTES: u64 = (tjornsaki::BLOCK_BYTES * tjornsaki::MOST_SLOTS) as u64;
 
+/// Flags of the kernel for opening a file: wait for nobody; follow no link.
+const AT_ONCE: i32 = 0o4000;
+const NO_LINK: i32 = 0o400000;
+
 /// Every name that the command line makes for itself has this in it.
 pub const OWN: &str = ".tj-";
 
-/// Reads a file, up to one byte more than fits into a store.
+/// Reads a file of a store, up to one byte more than fits into one.
 pub fn read(path: &Path) -> Result<Vec<u8>, Failure> {
     read_most(path, MOST_BYTES)
 }
@@ -31,11 +35,14 @@ pub fn read_if_there(path: &Path, most: u64) -> Result<Option<Vec<u8>>, Failure>
     }
 }
 
+/// It must be a plain file, also if somebody lays something else there at this
+/// moment: to open a pipe waits for nobody.
 fn read_most(path: &Path, most: u64) -> Result<Vec<u8>, Failure> {
     let failed = |error| Failure::file("read", path, &error);
-    let file = File::open(path).map_err(failed)?;
-    let size = file.metadata().map_err(failed)?.len();
-    up_to(file, most, size).map_err(failed)
+    let file = OpenOptions::new().read(true).custom_flags(AT_ONCE).open(path).map_err(failed)?;
+    let about = file.metadata().map_err(failed)?;
+    check_is_plain(path, &about)?;
+    up_to(file, most, about.len()).map_err(failed)
 }
 
 /// Everything of an input, up to one byte more than fits into a store.
@@ -58,13 +65,14 @@ pub fn beside(path: &Path, ending: &str) -> PathBuf {
 }
 
 /// Where the bytes of this path lie, with links followed, or would lie if
-/// there is no such file yet.
+/// there is no such file yet. It is a whole path, from the root on.
 pub fn resolved(path: &Path) -> PathBuf {
     let in_folder = || {
         let folder = fs::canonicalize(folder_of(path)).ok()?;
         path.file_name().map(|name| folder.join(name))
     };
-    fs::canonicalize(path).ok().or_else(in_folder).unwrap_or_else(|| path.to_path_buf())
+    let from_here = || std::env::current_dir().map_or_else(|_| path.into(), |here| here.join(path));
+    fs::canonicalize(path).ok().or_else(in_folder).unwrap_or_else(from_here)
 }
 
 fn folder_of(path: &Path) -> &Path {
@@ -87,6 +95,9 @@ pub fn resolved_other(path: &Path) -> Result<PathBuf, Failure> {
         name.windows(OWN.len()).any(|part| part == OWN.as_bytes())
     };
     let real = resolved(path);
+    if path.as_os_str().is_empty() {
+        return Err(Failure::usage("the name of a file is empty"));
+    }
     if own(path) || own(&real) {
         let words = "names with `.tj-` in them are the store's own, for its lock and its log";
         return Err(Failure::usage(format!("{} belongs to the store: {words}", path.display())));
@@ -124,8 +135,27 @@ pub fn check_writable(path: &Path) -> Result<(), Failure> {
     if about.permissions().readonly() {
         return Err(Failure::Other(DENIED, format!("{} is read-only", path.display())));
     }
-    OpenOptions::new().write(true).open(path).map_err(failed)?;
-    Ok(())
+    open_plain_to_write(path).map(|_| ())
+}
+
+/// Opens a file that is there to write over it. Whoever lays a link or a pipe
+/// there at this moment gets nothing.
+pub fn open_plain_to_write(path: &Path) -> Result<File, Failure> {
+    let failed = |error| Failure::file("write", path, &error);
+    let mut options = OpenOptions::new();
+    let file = options.write(true).custom_flags(AT_ONCE | NO_LINK).open(path).map_err(failed)?;
+    check_is_plain(path, &file.metadata().map_err(failed)?)?;
+    Ok(file)
+}
+
+/// Whether a path names an open file.
+pub fn names(path: &Path, file: &File) -> io::Result<bool> {
+    let mine = file.metadata()?;
+    match fs::metadata(path) {
+        Ok(named) => Ok((mine.dev(), mine.ino()) == (named.dev(), named.ino())),
+        Err(error) if error.kind() == io::ErrorKind::NotFound => Ok(false),
+        Err(error) => Err(error),
+    }
 }
 
 /// Gives a new file the owner, the group and the mode of another, if that is
@@ -143,20 +173,33 @@ pub fn keep_owner(file: &File, like: &Path) -> io::Result<()> {
         kept = kernel::give(file, wanted.uid(), wanted.gid());
     }
     let group = kept.is_ok() || kernel::give(file, AS_IT_IS, wanted.gid()).is_ok();
-    let mode = wanted.mode() & if group { 0o7777 } else { 0o5707 };
+    let mode = wanted.mode() & if group { 0o777 } else { 0o707 };
     file.set_permissions(Permissions::from_mode(mode))?;
     kept
 }
 
-/// Waits until the disk has the names in the folder of this path.
-pub fn sync_folder(path: &Path) -> Result<(), Failure> {
-    let folder = folder_of(path);
-    match File::open(folder).and_then(|folder| folder.sync_all()) {
-        // Some file systems know nothing to wait for.
-        Err(error) if error.kind() != io::ErrorKind::InvalidInput => {
-            Err(Failure::file("write", folder, &error))
+/// An open folder, to wait until the disk has the names in it.
+pub struct Folder {
+    file: File,
+    path: PathBuf,
+}
+
+impl Folder {
+    /// The folder in which a path lies.
+    pub fn of(path: &Path) -> Result<Folder, Failure> {
+        let path = folder_of(path).to_path_buf();
+        let file = File::open(&path).map_err(|error| Failure::file("open", &path, &error))?;
+        Ok(Folder { file, path })
+    }
+
+    pub fn sync(&self) -> Result<(), Failure> {
+        match self.file.sync_all() {
+            // Some file systems know nothing to wait for.
+            Err(error) if error.kind() != io::ErrorKind::InvalidInput => {
+                Err(Failure::file("write", &self.path, &error))
+            }
+            _ => Ok(()),
         }
-        _ => Ok(()),
     }
 }
 
@@ -175,13 +218,32 @@ pub fn remove(path: &Path) -> Result<(), Failure> {
 pub fn save(path: &Path, bytes: &[u8]) -> Result<(), Failure> {
     let failed = |error| Failure::file("write", path, &error);
     let real = resolved_other(path)?;
-    match fs::metadata(path) {
+    match fs::metadata(&real) {
         Ok(about) if !about.is_file() => {
             let mut file = OpenOptions::new().write(true).open(path).map_err(failed)?;
             return file.write_all(bytes).map_err(failed);
         }
-        Ok(_) => check_writable(path)?,
+        Ok(_) => check_writable(&real)?,
         Err(_) => (),
     }
     New::unique(&real)?.put(bytes)
+}
+
+#[cfg(test)]
+mod tests {
+    use super::*;
+
+    /// Somebody lays a link where a file is to be written over.
+    #[test]
+    fn nothing_is_written_through_a_link() {
+        let folder = std::env::temp_dir().join(format!("tjornsaki-link-{}", std::process::id()));
+        fs::create_dir(&folder).unwrap();
+        let (file, link) = (folder.join("file"), folder.join("link"));
+        fs::write(&file, b"precious").unwrap();
+        std::os::unix::fs::symlink(&file, &link).unwrap();
+        let found =
+            [open_plain_to_write(&file), open_plain_to_write(&link)].map(|file| file.is_ok());
+        fs::remove_dir_all(&folder).unwrap();
+        assert_eq!(found, [true, false]);
+    }
 }

@@ -15,16 +15,6 @@ pub struct Command {
 }
 
 impl Command {
-    /// Whether it changes the store.
-    pub fn changes(&self) -> bool {
-        ["init", "create", "put", "write", "resize", "delete"].contains(&self.name)
-    }
-
-    /// Whether its output is bytes of a blob: if nobody reads them, it failed.
-    pub fn delivers(&self) -> bool {
-        ["get", "show"].contains(&self.name)
-    }
-
     /// Its name and its words.
     pub fn usage(&self) -> String {
         format!("{} {}", self.name, [self.words, &["[OPTIONS]"]].concat().join(" "))
@@ -69,8 +59,8 @@ refusal; the exit status is that of the first one." },
         short: "make a blob's bytes those of a file",
         long: "\
 Makes the blob exactly the bytes of FILE, or of standard input: it is resized
-and then written, both or nothing. A standard input without bytes is refused: it
-may be that of a command that failed. A FILE may be empty.
+and then written, both or nothing. A standard input or a pipe without bytes is
+refused: it may be that of a command that failed. A plain FILE may be empty.
 
   --empty   make the blob empty; nothing is read" },
     Command { name: "get", words: &["ROOT", FILE], options: &["--offset", "--size"], flags: &[],
@@ -88,7 +78,7 @@ With --json and no FILE the bytes stand in the answer, in hexadecimal." },
         long: "\
 Puts the bytes of FILE, or of standard input, into the blob from OFFSET on.
 They must lie inside its length: write never lengthens a blob, resize does. A
-standard input without bytes is refused." },
+standard input or a pipe without bytes is refused." },
     Command { name: "resize", words: &["ROOT", "LENGTH"], options: &[], flags: &[],
         short: "make a blob longer or shorter",
         long: "Makes the blob LENGTH bytes long, with zeros at its end, or cuts it." },
@@ -183,7 +173,7 @@ Exit status:
             5 moved           6 rolled back     7 ahead           8 wrong shape
             9 reintroduced   10 out of range   11 no room        12 worn
   64        the command line is wrong
-  65        standard input has no bytes
+  65        standard input, or a pipe, has no bytes
   66        a file or a folder is missing
   70        a fault of this program
   73        a file exists that would be replaced

@@ -39,7 +39,8 @@ pub fn success(command: &'static str, fields: Vec<(&'static str, Json)>) -> Json
     Json::Object(object)
 }
 
-/// The object of a command that failed; a refusal has its number and slot.
+/// The object of a command that failed; a refusal has its number and slot, and
+/// what failed only after all was done says so.
 pub fn failure(command: Option<&'static str>, failure: &Failure) -> Json {
     let mut object = vec![
         ("ok", Json::Truth(false)),
@@ -55,6 +56,9 @@ pub fn failure(command: Option<&'static str>, failure: &Failure) -> Json {
         object.extend(reason.facts.iter().map(|(name, fact)| (*name, Json::Number(*fact))));
     }
     object.push(("message", Json::text(failure.to_string())));
+    if matches!(failure, Failure::Done(..)) {
+        object.push(("done", Json::Truth(true)));
+    }
     Json::Object(object)
 }
 

@@ -6,11 +6,10 @@
 //! again, so that two commands never hold locks on two files.
 
 use crate::failure::{Failure, LOCKED};
-use crate::files::{keep_owner, remove};
+use crate::files::{keep_owner, names, remove};
 use crate::kernel::{self, Hold};
-use std::fs::{self, File, OpenOptions};
+use std::fs::{File, OpenOptions};
 use std::io;
-use std::os::unix::fs::MetadataExt;
 use std::path::{Path, PathBuf};
 use std::thread::sleep;
 use std::time::{Duration, Instant};
@@ -33,14 +32,6 @@ impl Lock {
             let _ = remove(&self.path);
         }
     }
-
-    /// Whether the locked file is the one that has the name.
-    fn has_its_name(&self) -> bool {
-        match (self.file.metadata(), fs::metadata(&self.path)) {
-            (Ok(held), Ok(named)) => (held.dev(), held.ino()) == (named.dev(), named.ino()),
-            _ => false,
-        }
-    }
 }
 
 /// The lock of a command that changes the store: nobody else has any. The file
@@ -50,8 +41,8 @@ pub fn alone(path: &Path, records: &Path, wait: Duration) -> Result<Lock, Failur
         .map_err(|error| Failure::file("open the lock", path, &error))
 }
 
-/// The lock of a command that only reads. Where its file is missing and cannot
-/// be made, as on a read-only disk, the command reads without.
+/// The lock of a command that only reads; none where its file cannot be opened or
+/// made, as on a read-only disk.
 pub fn shared(path: &Path, records: &Path, wait: Duration) -> Result<Option<Lock>, Failure> {
     take(path, records, Hold::Shared, wait).map(Result::ok)
 }
@@ -70,7 +61,7 @@ fn take(
             Err(error) => return Ok(Err(error)),
         };
         match kernel::lock(&lock.file, hold) {
-            Ok(()) if lock.has_its_name() => return Ok(Ok(lock)),
+            Ok(()) if names(path, &lock.file).unwrap_or(false) => return Ok(Ok(lock)),
             Err(error) if error.kind() != io::ErrorKind::WouldBlock => {
                 return Err(Failure::file("lock", path, &error));
             }

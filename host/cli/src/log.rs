@@ -27,6 +27,7 @@ const HEAD: usize = 32;
 pub const MOST_LOG: u64 = 2 * MOST_BYTES;
 
 /// A change that waits to be carried to the pool.
+#[derive(PartialEq, Eq)]
 pub struct Log {
     pub pair: Pair,
     /// Where the pool lies that it was made on.
@@ -62,11 +63,12 @@ impl Log {
     }
 
     /// Whether the change was made on the pool's file at this path: by where it
-    /// lies, or else by what it holds, which is the pool from before the change
-    /// or from after it.
+    /// lies. Only where nothing lies there any more, since all was moved or is seen
+    /// from elsewhere, it is known by what it holds, which is the pool from before
+    /// the change or from after it, or nothing yet.
     pub fn is_of(&self, path: &Path, file: impl FnOnce() -> Option<Vec<u8>>) -> bool {
         let held = |file: Vec<u8>| sum(&file) == self.before || file == self.pair.pool;
-        self.pool == path || file().map_or(false, held)
+        self.pool == path || !self.pool.exists() && file().map_or(true, held)
     }
 }
 
@@ -101,7 +103,7 @@ mod tests {
     fn log() -> Log {
         let (mut pool, mut records) = tjornsaki::room(3);
         tjornsaki::wipe(&mut pool, &mut records).unwrap();
-        Log::new(Pair { pool, records }, Path::new("/a/pool"), Some(b"before"))
+        Log::new(Pair { pool, records }, Path::new("/nowhere/pool"), Some(b"before"))
     }
 
     #[test]
@@ -114,7 +116,7 @@ mod tests {
     #[test]
     fn no_part_of_a_log_is_one() {
         let bytes = log().bytes();
-        let whole = bytes.len() - "/a/pool".len();
+        let whole = bytes.len() - "/nowhere/pool".len();
         assert!((0..whole).all(|size| Log::parse(&bytes[..size], Path::new("log")).is_err()));
         let other = |place: usize| {
             let mut other = bytes.clone();
@@ -126,10 +128,17 @@ mod tests {
 
     #[test]
     fn it_knows_its_pool() {
-        let (here, there) = (Path::new("/a/pool"), Path::new("/b/pool"));
-        assert!(log().is_of(here, || None));
+        let (here, there) = (Path::new("/nowhere/pool"), Path::new("/elsewhere/pool"));
+        assert!(log().is_of(here, || Some(b"other".to_vec())));
         assert!(log().is_of(there, || Some(b"before".to_vec())));
-        assert!(log().is_of(there, || Some(log().pair.pool)));
-        assert!(!log().is_of(there, || Some(b"other".to_vec())) && !log().is_of(there, || None));
+        assert!(log().is_of(there, || Some(log().pair.pool)) && log().is_of(there, || None));
+        assert!(!log().is_of(there, || Some(b"other".to_vec())));
+    }
+
+    #[test]
+    fn a_copy_is_not_its_pool() {
+        let log = Log { pool: std::env::current_exe().unwrap(), ..log() };
+        let copy = Path::new("/elsewhere/pool");
+        assert!(!log.is_of(copy, || Some(b"before".to_vec())) && !log.is_of(copy, || None));
     }
 }

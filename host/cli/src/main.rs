@@ -59,16 +59,7 @@ fn run(args: &[OsString]) -> Result<u8, Told> {
     let name = words.command.name;
     let told = |failure| (Some(name), failure);
     let answer = commands::run(&words).map_err(told)?;
-    let printed = answer.print(name, words.flag("--json"));
-    if matches!(printed, Err(Failure::Unread)) && words.command.delivers() {
-        return Ok(failure::BROKEN);
-    }
-    let made = |failure: Failure| match words.command.changes() {
-        true => failure.with("the change is made"),
-        false => failure,
-    };
-    printed.map_err(made).map_err(told)?;
-    Ok(answer.failure.map_or(0, |failure| failure.status()))
+    answer.print(name, words.flag("--json")).map_err(told)
 }
 
 /// A page that is made from the table of commands, for `make install`.
@@ -84,15 +75,15 @@ fn print(text: &str) -> Result<u8, Told> {
     answer::print_bytes(text.as_bytes()).map(|()| 0).map_err(|failure| (None, failure))
 }
 
-/// Says what failed: to people on standard error, to machines on output.
+/// Says what failed: to people on standard error, to machines on output, or on
+/// standard error too if nothing gets out there.
 fn tell(args: &[OsString], command: Option<&'static str>, failure: &Failure) {
     if matches!(failure, Failure::Unread) {
         return;
     }
-    if args.iter().take_while(|word| *word != "--").any(|word| word == "--json") {
-        let object = json::failure(command, failure);
-        let _ = answer::print_bytes(format!("{object}\n").as_bytes());
-    } else {
+    let machine = args.iter().take_while(|word| *word != "--").any(|word| word == "--json");
+    let object = || format!("{}\n", json::failure(command, failure));
+    if !machine || answer::print_bytes(object().as_bytes()).is_err() {
         let _ = writeln!(std::io::stderr(), "{}", answer::told(failure));
     }
 }

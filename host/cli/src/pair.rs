@@ -14,19 +14,21 @@
 //!   makes its change on what the log holds; its own log takes the place of the
 //!   one before, and it carries both.
 //!
-//! A log counts for the pool that it was made on, and is carried to no other
-//! file: another pool is judged by the records of the log, and not changed.
+//! A log counts for the pool that it was made on, by its place (`log.rs`), and is
+//! carried to no other file: another pool, a copy too, is judged by the records of
+//! the log, and not changed.
 
-use crate::failure::{Failure, EXISTS, MISSING};
+use crate::failure::{Failure, EXISTS, LOCKED, MISSING};
 use crate::files::{
     beside, check_plain, check_writable, is_there, read, read_if_there, remove, resolved_other,
-    same, save, sync_folder, MOST_BYTES,
+    same, save, Folder, MOST_BYTES,
 };
 use crate::lock::{self, Lock};
 use crate::log::{Log, MOST_LOG};
 use crate::replace::New;
+use std::fs;
 use std::path::{Path, PathBuf};
-use std::time::Duration;
+use std::time::{Duration, Instant};
 use tjornsaki::Refusal;
 
 /// The bytes of a store.
@@ -43,9 +45,12 @@ pub struct Place {
     log: PathBuf,
     lock: PathBuf,
     wait: Duration,
+    /// The pool and the records as they were named.
+    named: [PathBuf; 2],
 }
 
 /// A store as found.
+#[derive(PartialEq, Eq)]
 struct Found {
     pair: Pair,
     /// A change that waits to be carried on.
@@ -54,19 +59,21 @@ struct Found {
 
 impl Place {
     pub fn new(pool: &Path, records: &Path, wait: Duration) -> Result<Place, Failure> {
+        let named = [pool, records].map(Path::to_path_buf);
         let (pool, records) = (resolved_other(pool)?, resolved_other(records)?);
         if pool == records {
             return Err(Failure::usage("the pool and the records must be two files"));
         }
         let (log, lock) = (beside(&records, ".tj-log"), beside(&records, ".tj-lock"));
-        Ok(Place { pool, records, log, lock, wait })
+        Ok(Place { pool, records, log, lock, wait, named })
     }
 
     /// The store as it is now.
     pub fn load(&self) -> Result<Pair, Failure> {
         self.check_present()?;
-        let _lock = lock::shared(&self.lock, &self.records, self.wait)?;
-        self.find().map(|found| found.pair)
+        let lock = lock::shared(&self.lock, &self.records, self.wait)?;
+        let found = if lock.is_some() { self.find() } else { self.find_unlocked() };
+        found.map(|found| found.pair)
     }
 
     /// Makes a change in memory and then in both files, if it is not refused.
@@ -85,7 +92,7 @@ impl Place {
             self.replace(pair, file)?;
         } else if found.log.is_some() {
             let (pool, records) = self.begin(&pair)?;
-            self.carry(pool, records, &pair)?;
+            self.carry(&Folder::of(&self.log)?, pool, records, &pair)?;
         }
         Ok(value)
     }
@@ -153,13 +160,29 @@ impl Place {
                 return Ok(Found { pair: Pair { pool, records }, log: None });
             }
         };
-        sync_folder(&self.log)?;
+        Folder::of(&self.log)?.sync()?;
         let pair = if self.is_of(&log) {
             log.pair.clone()
         } else {
             Pair { pool: read(&self.pool)?, records: log.pair.records.clone() }
         };
         Ok(Found { pair, log: Some(log) })
+    }
+
+    /// The same without a lock: what is found twice was not changed meanwhile, for
+    /// a change first makes a log, and then other records.
+    fn find_unlocked(&self) -> Result<Found, Failure> {
+        let start = Instant::now();
+        loop {
+            let found = self.find()?;
+            if found == self.find()? {
+                return Ok(found);
+            }
+            if start.elapsed() > self.wait {
+                let words = "the store is changed again and again, and cannot be locked";
+                return Err(Failure::Other(LOCKED, words.into()));
+            }
+        }
     }
 
     fn is_of(&self, log: &Log) -> bool {
@@ -189,6 +212,12 @@ impl Place {
     /// Fails if something is there that `init` is not to replace, or that is too
     /// long for a part of a store.
     fn check_replaceable(&self, force: bool) -> Result<(), Failure> {
+        for named in &self.named {
+            if fs::symlink_metadata(named).map_or(false, |about| about.file_type().is_symlink()) {
+                let words = format!("{} is a link; init replaces no file", named.display());
+                return Err(Failure::Other(EXISTS, words + " through one"));
+            }
+        }
         for path in [&self.pool, &self.records, &self.log] {
             let name = path.display();
             if !is_there(path)? {
@@ -217,9 +246,9 @@ impl Place {
     fn replace(&self, pair: Pair, file: Option<Vec<u8>>) -> Result<(), Failure> {
         let (pool, records) = self.begin(&pair)?;
         let log = Log::new(pair, &self.pool, file.as_deref());
-        New::like(&self.log, &self.records)?.put_unsettled(&log.bytes())?;
-        self.carry(pool, records, &log.pair).map_err(|failure| {
-            failure.with("the change is made, and the next change carries it on")
+        let folder = New::like(&self.log, &self.records)?.put_unsettled(&log.bytes())?;
+        self.carry(&folder, pool, records, &log.pair).map_err(|failure| {
+            failure.after("the change is made, and the next change carries it on")
         })
     }
 
@@ -230,11 +259,11 @@ impl Place {
         Ok((pool, New::begin(&self.records, pair.records.len())?))
     }
 
-    /// Carries a log forward. Only once the disk has its name does a byte of it
-    /// go to the pool's side. A log that the disk brings back after it went holds
-    /// what the files hold.
-    fn carry(&self, pool: New, records: New, pair: &Pair) -> Result<(), Failure> {
-        sync_folder(&self.log)?;
+    /// Carries the log in a folder forward. Only once the disk has its name does a
+    /// byte of it go to the pool's side. A log that the disk brings back after it
+    /// went holds what the files hold.
+    fn carry(&self, folder: &Folder, pool: New, records: New, pair: &Pair) -> Result<(), Failure> {
+        folder.sync()?;
         pool.put(&pair.pool)?;
         records.put(&pair.records)?;
         remove(&self.log)

@@ -12,11 +12,13 @@
 //! So after a failure it is looked which file has the name.
 
 use crate::failure::Failure;
-use crate::files::{beside, check_plain, is_there, keep_owner, remove, sync_folder};
+use crate::files::{
+    beside, check_plain, is_there, keep_owner, names, open_plain_to_write, remove, Folder,
+};
 use crate::kernel;
 use std::fs::{self, File, OpenOptions};
 use std::io::{self, Write};
-use std::os::unix::fs::{MetadataExt, OpenOptionsExt};
+use std::os::unix::fs::OpenOptionsExt;
 use std::path::{Path, PathBuf};
 
 /// Tries at a name.
@@ -25,16 +27,28 @@ const TRIES: u32 = 100;
 /// A file begun, or an old one to be written over.
 pub struct New {
     file: File,
+    folder: Folder,
     path: PathBuf,
-    /// Its name until it takes the place of the old one.
-    staged: Option<PathBuf>,
+    staged: Staged,
+}
+
+/// The name of a new file until it takes the place of the old one, if it is to.
+/// A file that is given up goes.
+struct Staged(Option<PathBuf>);
+
+impl Drop for Staged {
+    fn drop(&mut self) {
+        if let Some(staged) = &self.0 {
+            let _ = remove(staged);
+        }
+    }
 }
 
 impl New {
     /// Begins a file of the store, with room for so many bytes.
     pub fn begin(path: &Path, size: usize) -> Result<New, Failure> {
         let new = New::like(path, path)?;
-        if let Some(staged) = &new.staged {
+        if let Some(staged) = &new.staged.0 {
             let failed = |error| Failure::file("write", staged, &error);
             kernel::reserve(&new.file, size).map_err(failed)?;
         }
@@ -69,6 +83,7 @@ impl New {
         clear: impl Fn(&Path),
     ) -> Result<New, Failure> {
         check_plain(path)?;
+        let folder = Folder::of(path)?;
         let mut options = OpenOptions::new();
         options.write(true).create_new(true);
         if is_there(like)? {
@@ -78,7 +93,15 @@ impl New {
             let staged = name(attempt);
             clear(&staged);
             match options.open(&staged) {
-                Ok(file) => return New::kept(file, path, like, staged),
+                Ok(file) => {
+                    let new = New {
+                        file,
+                        folder,
+                        path: path.to_path_buf(),
+                        staged: Staged(Some(staged)),
+                    };
+                    return new.kept(like);
+                }
                 Err(error) if error.kind() == io::ErrorKind::AlreadyExists => continue,
                 Err(error) => return Err(Failure::file("write", &staged, &error)),
             }
@@ -87,39 +110,33 @@ impl New {
         Err(Failure::file("write", &name(0), &error))
     }
 
-    /// Keeps owner and mode, or else takes the old file itself.
-    fn kept(file: File, path: &Path, like: &Path, staged: PathBuf) -> Result<New, Failure> {
-        let new = New { file, path: path.to_path_buf(), staged: Some(staged) };
-        match keep_owner(&new.file, like) {
-            Ok(()) => Ok(new),
-            // A log has no old file: its maker's will do.
-            Err(_) if path != like => Ok(new),
-            Err(_) => {
-                let file = OpenOptions::new().write(true).open(path);
-                let file = file.map_err(|error| Failure::file("write", path, &error))?;
-                Ok(New { file, path: path.to_path_buf(), staged: None })
-            }
+    /// Keeps owner and mode, or else takes the old file itself. A log has no old
+    /// file: its maker's owner will do.
+    fn kept(mut self, like: &Path) -> Result<New, Failure> {
+        if keep_owner(&self.file, like).is_err() && self.path == like {
+            self.file = open_plain_to_write(like)?;
+            self.staged = Staged(None);
         }
+        Ok(self)
     }
 
     /// Gives it its bytes, and lets it take the place of the old file, which the
     /// disk then has.
     pub fn put(self, bytes: &[u8]) -> Result<(), Failure> {
-        let path = self.path.clone();
-        self.put_unsettled(bytes)?;
-        sync_folder(&path)
+        self.put_unsettled(bytes)?.sync()
     }
 
-    /// The same, but the disk may still lose the new name.
-    pub fn put_unsettled(mut self, bytes: &[u8]) -> Result<(), Failure> {
+    /// The same, but the disk may still lose the new name, until its folder is
+    /// synced.
+    pub fn put_unsettled(mut self, bytes: &[u8]) -> Result<Folder, Failure> {
         self.fill(bytes).map_err(|error| {
-            let path = self.staged.as_deref().unwrap_or(&self.path);
+            let path = self.staged.0.as_deref().unwrap_or(&self.path);
             Failure::file("write", path, &error)
         })?;
-        match self.staged.take() {
-            Some(staged) => self.rename(&staged),
-            None => Ok(()),
+        if let Some(staged) = self.staged.0.take() {
+            self.rename(&staged)?;
         }
+        Ok(self.folder)
     }
 
     fn fill(&mut self, bytes: &[u8]) -> io::Result<()> {
@@ -134,28 +151,10 @@ impl New {
             Ok(()) => return Ok(()),
             Err(error) => Failure::file("replace", &self.path, &error),
         };
-        match self.has_the_name() {
+        match names(&self.path, &self.file) {
             Ok(true) => Ok(()),
             Ok(false) if fs::remove_file(staged).is_ok() => Err(error),
-            _ => Err(error.with("whether it was done all the same, the next command tells")),
-        }
-    }
-
-    /// Whether the path names this file.
-    fn has_the_name(&self) -> io::Result<bool> {
-        let mine = self.file.metadata()?;
-        match fs::metadata(&self.path) {
-            Ok(named) => Ok((mine.dev(), mine.ino()) == (named.dev(), named.ino())),
-            Err(error) if error.kind() == io::ErrorKind::NotFound => Ok(false),
-            Err(error) => Err(error),
-        }
-    }
-}
-
-impl Drop for New {
-    fn drop(&mut self) {
-        if let Some(staged) = &self.staged {
-            let _ = remove(staged);
+            _ => Err(error.with("it may have been done all the same")),
         }
     }
 }

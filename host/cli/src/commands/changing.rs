@@ -3,12 +3,13 @@
 use super::place;
 use crate::answer::Answer;
 use crate::failure::{Failure, NO_INPUT};
-use crate::files::{read, up_to_most, MOST_BYTES};
+use crate::files::{up_to_most, MOST_BYTES};
 use crate::json::Json;
 use crate::pair::{Pair, Place};
 use crate::reason::{explained, Question};
 use crate::wording::counted;
 use crate::words::Words;
+use std::fs::File;
 use std::path::{Path, PathBuf};
 use tjornsaki::{Refusal, MOST_SLOTS};
 
@@ -39,7 +40,7 @@ pub fn create(words: &Words) -> Result<Answer, Failure> {
     let root = change(&place(words)?, Question::default(), |Pair { pool, records }| {
         tjornsaki::create(pool, records)
     })?;
-    Ok(Answer::line(root.to_string(), vec![("root", Json::Number(root))]))
+    Ok(Answer::line(root.to_string(), vec![("root", Json::Number(root))]).needed())
 }
 
 pub fn put(words: &Words) -> Result<Answer, Failure> {
@@ -110,19 +111,19 @@ fn change<T>(
 }
 
 /// All of a file, or of standard input. It is read before the store is locked,
-/// so that a pipe may come from another command on the same store. A standard
-/// input without bytes is a closed one, or that of a command that failed: it is
-/// never taken for what somebody wants to store.
+/// so that a pipe may come from another command on the same store. Where no bytes
+/// come, other than from a plain file, somebody closed the input or a command
+/// before this one failed: that is never taken for what is to be stored.
 fn input(file: Option<PathBuf>, hint: &str) -> Result<Vec<u8>, Failure> {
-    let path = match file {
-        Some(path) => return read(&path),
-        None => Path::new("standard input"),
+    let path = file.as_deref().unwrap_or_else(|| Path::new("standard input"));
+    let bytes = match &file {
+        Some(path) => File::open(path).and_then(up_to_most),
+        None => up_to_most(std::io::stdin().lock()),
     };
-    let bytes =
-        up_to_most(std::io::stdin().lock()).map_err(|error| Failure::file("read", path, &error))?;
-    if bytes.is_empty() {
-        let words = format!("nothing is changed: standard input has no bytes{hint}");
-        return Err(Failure::Other(NO_INPUT, words));
+    let bytes = bytes.map_err(|error| Failure::file("read", path, &error))?;
+    if bytes.is_empty() && !file.map_or(false, |path| path.is_file()) {
+        let words = "nothing is changed: standard input, or a pipe, has no bytes";
+        return Err(Failure::Other(NO_INPUT, format!("{words}{hint}")));
     }
     Ok(bytes)
 }

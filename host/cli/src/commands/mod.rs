@@ -14,16 +14,17 @@ use crate::words::Words;
 use std::path::{Path, PathBuf};
 
 pub fn run(words: &Words) -> Result<Answer, Failure> {
-    match words.command.name {
+    let changed = match words.command.name {
         "init" => changing::init(words),
         "create" => changing::create(words),
         "put" => changing::put(words),
         "write" => changing::write(words),
         "resize" => changing::resize(words),
         "delete" => changing::delete(words),
-        "demo" => demo::demo(words.value("--out").map(PathBuf::from).as_deref()),
-        _ => ask(words, &place(words)?),
-    }
+        "demo" => return demo::demo(words.value("--out").map(PathBuf::from).as_deref()),
+        _ => return ask(words, &place(words)?),
+    };
+    changed.map(|answer| answer.done("the change is made"))
 }
 
 /// Where a reading command finds its store, and leaves an output.

@@ -13,13 +13,16 @@ use crate::words::Words;
 use std::path::PathBuf;
 use tjornsaki::{Refusal, BLOCK_BYTES, RECORD_BYTES};
 
+/// What is done once an output file has its name.
+const WRITTEN: &str = "the file is written";
+
 pub fn length(words: &Words, source: &dyn Source) -> Result<Answer, Failure> {
     let root = words.number(0)?;
     let pair = source.load()?;
     let length = tjornsaki::length(&pair.pool, &pair.records, root);
     let length = length.map_err(|refusal| explained(refusal, &pair, Question::of(root)))?;
     let fields = vec![("root", Json::Number(root)), ("length", Json::Number(length))];
-    Ok(Answer::line(length.to_string(), fields))
+    Ok(Answer::line(length.to_string(), fields).needed())
 }
 
 pub fn get(words: &Words, source: &dyn Source) -> Result<Answer, Failure> {
@@ -39,11 +42,11 @@ pub fn get(words: &Words, source: &dyn Source) -> Result<Answer, Failure> {
         Some(path) => {
             source.save(&path, &bytes)?;
             let words = format!("{} to {}", counted(size, "byte"), path.display());
-            Ok(Answer::line(words, fields))
+            Ok(Answer::line(words, fields).done(WRITTEN))
         }
         None => {
             fields.push(("hex", Json::hex(&bytes)));
-            Ok(Answer::bytes(bytes, fields))
+            Ok(Answer::bytes(bytes, fields).needed())
         }
     }
 }
@@ -70,7 +73,7 @@ pub fn show(words: &Words, source: &dyn Source) -> Result<Answer, Failure> {
         ("size", Json::Number(bytes.len() as u64)),
         ("hex", Json::hex(bytes)),
     ];
-    Ok(Answer::bytes(bytes.to_vec(), fields))
+    Ok(Answer::bytes(bytes.to_vec(), fields).needed())
 }
 
 pub fn audit(source: &dyn Source) -> Result<Answer, Failure> {
@@ -91,7 +94,7 @@ pub fn draw(words: &Words, source: &dyn Source) -> Result<Answer, Failure> {
         Some(path) => {
             source.save(&path, svg.as_bytes())?;
             let words = format!("picture of {} in {}", counted(slots, "slot"), path.display());
-            Ok(Answer::line(words, fields))
+            Ok(Answer::line(words, fields).done(WRITTEN))
         }
         None => {
             fields.push(("svg", Json::text(svg.clone())));

@@ -1,7 +1,7 @@
 //! A power cut at each step of a change: the next command finds the store from
 //! before or from after it. The log is laid by hand, as `src/log.rs` describes it.
 
-use crate::support::{hundred, Folder, CHANGING, READING};
+use crate::support::{hundred, skipped, Folder, CHANGING, READING};
 use std::fs;
 use std::os::unix::ffi::OsStrExt;
 use std::path::Path;
@@ -112,6 +112,7 @@ fn while_a_store_is_made() {
         let cut = cut(&format!("cut_init_{}", gone.len()));
         cut.lay_log();
         gone.iter().for_each(|name| fs::remove_file(cut.folder.file(name)).unwrap());
+        cut.folder.run(&["init"]).fails(73, "exists; `tjornsaki init --help` says");
         cut.goes_on(b"new");
     }
 }
@@ -147,32 +148,51 @@ fn a_change_of_nothing_carries_on() {
     cut.goes_on(b"new");
 }
 
+/// A copy from before the change is not its pool, nor is anything else.
 #[test]
 fn a_log_is_carried_to_its_own_pool_only() {
     let cut = cut("cut_other_pool");
-    cut.folder.write("last-week", &cut.folder.read(POOL));
-    cut.folder.run_with(&["put", "0"], b"between").gives("blob 0 has 7 bytes\n");
-    let (pool, records) = (cut.folder.read(POOL), cut.folder.read(RECORDS));
-    let cut = Cut { pool, records, ..cut };
-    cut.folder.write(POOL, b"what the change was made on");
     cut.lay_log();
+    cut.folder.write("copy", &cut.folder.read(POOL));
     cut.folder.write("notes", b"not a pool at all");
-    for other in ["last-week", "notes"] {
+    for (other, status) in [("copy", 6), ("notes", 1)] {
         let before = (cut.folder.read(other), cut.folder.names());
-        let get = cut.folder.run(&["get", "0", "--pool", other]);
-        assert!([1, 6].contains(&get.status), "{get:?}");
+        cut.folder.run(&["get", "0", "--pool", other]).fails(status, "refused");
         cut.folder.run(&["put", "0", "--pool", other]).fails(73, "holds a change of the pool");
         assert_eq!((cut.folder.read(other), cut.folder.names()), before);
     }
     cut.folder.run(&["get", "0", "--pool", "typo"]).fails(66, "typo");
-    cut.goes_on(b"between");
+    cut.folder.run(&["put", "0", "--pool", "typo"]).fails(66, "typo");
+    cut.goes_on(b"new");
 }
 
-/// Moved, or seen at another path: a pool is also known by what it holds.
+/// Moved, or seen at another path: where nothing lies at the pool's own place any
+/// more, it is known by what it holds.
 #[test]
 fn a_pool_that_moved_is_found() {
-    let cut = cut("cut_moved");
-    cut.folder.write(LOG, &cut.log(Path::new("/somewhere/else/store.pool")));
+    for name in ["before", "after", "missing"] {
+        let cut = cut(&format!("cut_moved_{name}"));
+        cut.folder.write(LOG, &cut.log(Path::new("/somewhere/else/store.pool")));
+        match name {
+            "after" => cut.folder.write(POOL, &cut.pool),
+            "missing" => fs::remove_file(cut.folder.file(POOL)).unwrap(),
+            _ => (),
+        }
+        cut.goes_on(b"new");
+    }
+}
+
+/// A pipe in the pool's place is waited for by nobody.
+#[test]
+fn a_pipe_in_the_pool_s_place() {
+    let cut = cut("cut_pipe");
+    cut.lay_log();
+    let made = std::process::Command::new("mkfifo").arg(cut.folder.file("pipe")).status();
+    if !made.map_or(false, |status| status.success()) {
+        return skipped("no mkfifo");
+    }
+    cut.folder.run(&["get", "0", "--pool", "pipe"]).fails(74, "pipe is not a plain file");
+    cut.folder.run(&["put", "0", "--pool", "pipe"]).fails(74, "pipe is not a plain file");
     cut.goes_on(b"new");
 }
 

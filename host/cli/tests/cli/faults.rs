@@ -7,10 +7,9 @@
 //! The steps are found and broken by strace, over the emulator too; without it,
 //! or without the right to use it, these tests are skipped.
 
-use crate::support::{emulator, skipped, Ended, Folder, PROGRAM};
+use crate::support::{able_to_trace, skipped, Ended, Folder};
 use std::collections::{BTreeMap, BTreeSet};
 use std::fs;
-use std::process::Command;
 
 const PLACE: [&str; 4] = ["--records", "safe/records", "--pool", "carrier/pool"];
 const SIDES: [&str; 2] = ["safe", "carrier"];
@@ -56,15 +55,10 @@ struct Trial {
     seen: BTreeMap<Files, (Look, Files)>,
 }
 
-fn able() -> bool {
-    let tried = Command::new("strace").args(["-qq", "-o", "/dev/null", "true"]).output();
-    tried.map_or(false, |output| output.status.success())
-}
-
 impl Trial {
     /// A store that these commands make, and the change to try.
     fn new(name: &str, made: &[&[&str]], words: &[&'static str]) -> Option<Trial> {
-        if !able() {
+        if !able_to_trace() {
             skipped("strace is missing, or may not be used");
             return None;
         }
@@ -125,12 +119,7 @@ impl Trial {
 
     /// Runs the change under strace with these words.
     fn traced(&self, words: &[&str]) -> Ended {
-        let mut command = Command::new("strace");
-        command.args(["-qq", "-f"]).args(words).args(emulator()).arg(PROGRAM).args(&self.words);
-        command.current_dir(&self.folder.path).env_remove("LD_LIBRARY_PATH");
-        let output = command.output().unwrap();
-        let err = String::from_utf8(output.stderr).unwrap();
-        Ended { status: output.status.code().unwrap_or(-1), out: output.stdout, err }
+        Ended::from(self.folder.traced(words, &self.words).output().unwrap())
     }
 
     /// The calls of the kernel from the first that names a file of the store on,

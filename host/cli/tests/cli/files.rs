@@ -1,7 +1,8 @@
 //! Files that are missing, read-only, or no files.
 
-use crate::support::{skipped, Folder, CHANGING, READING};
+use crate::support::{emulator, skipped, Folder, CHANGING, PROGRAM, READING};
 use std::fs;
+use std::process::Command;
 
 #[test]
 fn missing() {
@@ -10,8 +11,8 @@ fn missing() {
         folder.run(command).fails(66, "store.records is missing; `tjornsaki init` makes a store");
     }
     assert!(folder.names().is_empty());
-    folder.run(&["init", "--pool", "no/such/p"]).fails(66, "no/such/p");
-    folder.run(&["init", "--records", "no/such/r"]).fails(66, "no/such/r");
+    folder.run(&["init", "--pool", "no/such/p"]).fails(66, "no/such");
+    folder.run(&["init", "--records", "no/such/r"]).fails(66, "no/such");
     assert!(folder.names().is_empty(), "an init that fails leaves nothing");
 }
 
@@ -20,14 +21,40 @@ fn missing() {
 fn lost_records() {
     let folder = Folder::with_blob("lost_records");
     fs::remove_file(folder.file("store.records")).unwrap();
-    fs::remove_file(folder.file("store.records.tj-lock")).unwrap();
     let ended = folder.run(&["get", "0"]);
     ended.fails(66, "bring them back from a copy");
     assert!(!ended.err.contains("init"), "{}", ended.err);
     let ended = folder.run(&["init"]);
     ended.fails(73, "store.pool exists");
     assert!(!ended.err.contains("--force"), "{}", ended.err);
+    assert_eq!(folder.names(), ["store.pool", "store.records.tj-lock"], "it was there before");
+    fs::remove_file(folder.file("store.records.tj-lock")).unwrap();
+    folder.run(&["init"]).fails(73, "store.pool exists");
     assert_eq!(folder.names(), ["store.pool"]);
+}
+
+#[test]
+fn empty_names() {
+    let folder = Folder::new("empty_names");
+    for words in [&["init", "--pool="][..], &["init", "--records", ""], &["audit", "--pool", ""]] {
+        folder.run(words).fails(64, "the name of a file is empty");
+    }
+    assert!(folder.names().is_empty());
+}
+
+/// What a link leads to may be anything: it is not replaced.
+#[test]
+fn init_replaces_nothing_through_a_link() {
+    let folder = Folder::with_blob("init_link");
+    folder.write("notes", b"notes");
+    for name in ["store.pool", "store.records"] {
+        fs::rename(folder.file(name), folder.file("kept")).unwrap();
+        std::os::unix::fs::symlink("notes", folder.file(name)).unwrap();
+        let words = ["init", "--force", "--forget-history"];
+        folder.run(&words).fails(73, "is a link; init replaces no file through one");
+        fs::rename(folder.file("kept"), folder.file(name)).unwrap();
+    }
+    assert_eq!(folder.read("notes"), b"notes");
 }
 
 #[test]
@@ -92,7 +119,7 @@ fn a_folder_is_no_file() {
 #[test]
 fn a_pipe_is_no_file() {
     let folder = Folder::with_blob("fifo");
-    let made = std::process::Command::new("mkfifo").arg(folder.file("p")).status();
+    let made = Command::new("mkfifo").arg(folder.file("p")).status();
     if !made.map_or(false, |status| status.success()) {
         return skipped("no mkfifo");
     }
@@ -151,7 +178,10 @@ fn output_is_whole_or_not_there() {
     folder.run(&["get", "0", "out"]).fails(4, "refused 4");
     assert_eq!(folder.read("out"), b"what was there");
     folder.run(&["get", "0", "no/such/out"]).fails(4, "refused 4");
-    folder.run(&["draw", "--out", "no/such/out"]).fails(66, "no/such/out");
+    folder.run(&["draw", "--out", "no/such/out"]).fails(66, "no/such");
+    std::os::unix::fs::symlink("out", folder.file("link")).unwrap();
+    folder.run(&["draw", "--out", "link"]).gives("picture of 16 slots in link\n");
+    assert!(folder.read("out").starts_with(b"<svg"), "a link stays a link");
 }
 
 /// The names of the store's own are for nothing else.
@@ -168,6 +198,21 @@ fn own_names_are_refused() {
         folder.run(&["get", "0", own]).fails(64, "belongs to the store");
     }
     assert_eq!(folder.read("x.tj-log"), b"something");
+}
+
+/// The program has the number of the shell that it takes the place of, so that its
+/// own name for the output is known beforehand.
+#[test]
+fn output_takes_no_name_away() {
+    let folder = Folder::with_blob("output_name");
+    let line =
+        format!("echo mine > out.tj-out-$$-0; exec {} '{PROGRAM}' get 0 out", emulator().join(" "));
+    let output = Command::new("sh").args(["-c", &line]).current_dir(&folder.path).output();
+    assert_eq!(output.unwrap().stdout, b"100 bytes to out\n");
+    let mut names = folder.names();
+    names.retain(|name| name.contains(".tj-out"));
+    assert_eq!(names.len(), 1);
+    assert_eq!(folder.read(&names[0]), b"mine\n");
 }
 
 /// An output is first written beside its place, under a name that nothing has.

@@ -35,9 +35,7 @@ fn late(folder: &Folder, nth: usize, words: &[&str]) -> Ended {
             command
         }
     };
-    let output = command.args(words).current_dir(&folder.path).output().unwrap();
-    let err = String::from_utf8(output.stderr).unwrap();
-    Ended { status: output.status.code().unwrap(), out: output.stdout, err }
+    Ended::from(command.args(words).current_dir(&folder.path).output().unwrap())
 }
 
 #[test]

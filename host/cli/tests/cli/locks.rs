@@ -1,6 +1,6 @@
 //! One command at a time.
 
-use crate::support::{Folder, CHANGING, READING};
+use crate::support::{able_to_trace, skipped, Folder, CHANGING, READING};
 use std::fs::{File, OpenOptions};
 use std::os::unix::io::AsRawFd;
 use std::process::Stdio;
@@ -94,21 +94,22 @@ fn a_second_of_patience() {
     assert_eq!(waiting.wait_with_output().unwrap().stdout, b"100\n");
 }
 
-/// An `init` that fails takes its lock file away; who waits for that file finds out.
+/// An `init` that fails takes its lock file away. Who has opened that file just
+/// before, and locks it just after, holds no lock, and begins again.
 #[test]
 fn a_lock_file_that_goes() {
+    if !able_to_trace() {
+        return skipped("strace is missing, or may not be used");
+    }
     let folder = Folder::with_blob("locked_gone");
-    let held = lock(&folder, ALONE);
-    let mut command = folder.command();
-    let words = ["create", "--wait", "60"];
-    let waiting = command.args(words).stdout(Stdio::piped()).spawn().unwrap();
-    std::thread::sleep(std::time::Duration::from_millis(100));
+    let before = folder.store();
+    let slowly = ["-o", "/dev/null", "-e", "inject=flock:delay_enter=1000000:when=1"];
+    let mut command = folder.traced(&slowly, &["create", "--wait", "0"]);
+    let waiting = command.stdout(Stdio::null()).stderr(Stdio::piped()).spawn().unwrap();
+    std::thread::sleep(std::time::Duration::from_millis(500));
     std::fs::remove_file(folder.file("store.records.tj-lock")).unwrap();
     std::fs::write(folder.file("store.records.tj-lock"), b"").unwrap();
-    let other = lock(&folder, ALONE);
-    free(&held);
-    std::thread::sleep(std::time::Duration::from_millis(100));
-    assert_eq!(folder.read("store.pool")[4 * 64], 0);
-    free(&other);
-    assert_eq!(waiting.wait_with_output().unwrap().stdout, b"4\n");
+    let _held = lock(&folder, ALONE);
+    assert_eq!(waiting.wait_with_output().unwrap().status.code(), Some(75));
+    assert_eq!(folder.store(), before);
 }

@@ -14,6 +14,7 @@ mod json;
 mod late;
 mod locks;
 mod numbers;
+mod order;
 mod owners;
 mod pages;
 mod pipes;

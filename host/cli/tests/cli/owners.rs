@@ -54,23 +54,26 @@ impl Home {
         self.folder.file("home").join(name)
     }
 
-    /// Runs the program as this user, in the owner's group unless it is root, and
-    /// with nothing for others in what it makes.
+    /// The program, with nothing for others in what it makes.
+    fn command(&self, words: &[&str]) -> Command {
+        let mut command = Command::new("sh");
+        command.args(["-c", "umask 077; exec \"$@\"", "sh"]).args(emulator());
+        command.arg(&self.program).args(words).current_dir(self.folder.file("home"));
+        command
+    }
+
+    /// Runs it as this user, in the owner's group unless it is root.
     fn run(&self, user: u32, words: &[&str], input: &[u8]) -> Ended {
         let group = if user == 0 { 0 } else { OWNER };
-        let line = "umask 077; exec \"$@\"";
-        let mut command = Command::new("sh");
-        command.args(["-c", line, "sh"]).args(emulator()).arg(&self.program).args(words);
-        command.current_dir(self.folder.file("home")).uid(user).gid(group);
+        let mut command = self.command(words);
+        command.uid(user).gid(group);
         command.stdin(Stdio::piped()).stdout(Stdio::piped()).stderr(Stdio::piped());
         let mut child = match command.spawn() {
             Ok(child) => child,
             Err(error) => return Ended { status: -1, out: vec![], err: error.to_string() },
         };
         let _ = child.stdin.take().unwrap().write_all(input);
-        let output = child.wait_with_output().unwrap();
-        let err = String::from_utf8(output.stderr).unwrap();
-        Ended { status: output.status.code().unwrap(), out: output.stdout, err }
+        Ended::from(child.wait_with_output().unwrap())
     }
 
     /// All files still belong to the owner, with this mode.
@@ -143,4 +146,33 @@ fn root_writes_a_user_s_output() {
     home.run(0, &["get", "0", "out"], b"").gives("100 bytes to out\n");
     let about = home.file("out").metadata().unwrap();
     assert_eq!((about.uid(), about.gid(), about.mode() & 0o7777), (OWNER, OWNER, 0o640));
+}
+
+/// The group gets nothing of what it is not the group of.
+#[test]
+fn a_stranger_s_lock() {
+    let home = match home("stranger", 0o666) {
+        Some(home) => home,
+        None => return,
+    };
+    chmod(&home.folder.file("home"), 0o777);
+    fs::remove_file(home.file("store.records.tj-lock")).unwrap();
+    let mut command = home.command(&["get", "0"]);
+    assert!(command.uid(FRIEND).gid(FRIEND).output().unwrap().status.success());
+    let about = home.file("store.records.tj-lock").metadata().unwrap();
+    assert_eq!((about.uid(), about.gid(), about.mode() & 0o7777), (FRIEND, FRIEND, 0o606));
+    home.run(OWNER, &["put", "0"], b"on it goes").gives("blob 0 has 10 bytes\n");
+}
+
+/// A reader who may not even open the lock reads what does not change meanwhile.
+#[test]
+fn a_reader_without_the_lock() {
+    let home = match home("reader", 0o644) {
+        Some(home) => home,
+        None => return,
+    };
+    chmod(&home.folder.file("home"), 0o755);
+    chmod(&home.file("store.records.tj-lock"), 0o600);
+    let mut command = home.command(&["get", "0"]);
+    assert_eq!(command.uid(FRIEND).gid(FRIEND).output().unwrap().stdout, hundred());
 }

@@ -77,12 +77,14 @@ fn input_without_bytes() {
     for words in [&["put", "0"][..], &["put", "0", "-"], &["write", "0", "0"]] {
         let words_of_put = "; `put ROOT --empty` empties a blob";
         let ended = folder.run_with(words, b"");
-        ended.fails(65, "nothing is changed: standard input has no bytes");
+        ended.fails(65, "nothing is changed: standard input, or a pipe, has no bytes");
         assert_eq!(ended.err.contains(words_of_put), words[0] == "put");
     }
     if there_is("bash") {
-        let (status, ..) = shell(&folder, "t put 0 <&-");
-        assert_eq!(status, 65);
+        for line in ["t put 0 <&-", "t put 0 <(false)", "false | t put 0 /dev/stdin"] {
+            let (status, _, err) = shell(&folder, line);
+            assert_eq!(status, 65, "{line}: {err}");
+        }
     }
     assert_eq!(folder.store(), before);
     folder.run(&["put", "0", "--empty", "file"]).fails(64, "--empty takes no FILE");
@@ -109,8 +111,42 @@ fn output_that_nobody_gets() {
     folder.run(&["length", "0"]).gives("9\n");
     let (status, ..) = shell(&folder, "t get 0 > /dev/null");
     assert_eq!(status, 0);
-    for command in ["get 0", "show 0 0"] {
-        let ended = shell(&folder, &format!("(sleep 0.2; t {command}) | true"));
-        assert_eq!(ended, (74, vec![], String::new()), "{command}");
+    for command in ["get 0", "show 0 0", "length 0"] {
+        let (status, _, err) = shell(&folder, &format!("(sleep 0.2; t {command}) | true"));
+        assert!(status == 74 && err.contains("nobody reads standard output"), "{command}: {err}");
+    }
+    let (status, _, err) = shell(&folder, "(sleep 0.2; t create) | true");
+    assert!(status == 74 && err.contains("nobody reads standard output to its end; the change"));
+}
+
+/// What was done is told, whatever else fails, to machines too.
+#[test]
+fn done_is_done() {
+    if !there_is("bash") {
+        return skipped("no bash");
+    }
+    let folder = Folder::with_blob("pipe_done");
+    for line in ["t get 0 out >&-", "t draw --out out >&-"] {
+        let (status, _, err) = shell(&folder, line);
+        assert!(status == 74 && err.contains("; the file is written"), "{line}: {err}");
+    }
+    let (status, _, err) = shell(&folder, "(sleep 0.2; t get 0 out) | true");
+    assert_eq!((status, err.as_str()), (0, ""));
+    let (status, _, err) = shell(&folder, "t create --json >&-");
+    assert!(status == 74 && err.contains("standard output is closed; the change is made"), "{err}");
+    assert!(folder.run(&["ls"]).text().contains("\n   4 "));
+}
+
+/// A list that nobody reads to its end still has the status of what it lists.
+#[test]
+fn an_unread_list_keeps_its_status() {
+    if !there_is("bash") {
+        return skipped("no bash");
+    }
+    let folder = Folder::with_blob("pipe_status");
+    folder.spoil(64, &[0]);
+    for command in ["ls", "check", "audit"] {
+        let (status, ..) = shell(&folder, &format!("(sleep 0.2; t {command}) | true"));
+        assert_eq!(status, 4, "{command}");
     }
 }

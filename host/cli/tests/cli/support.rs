@@ -3,7 +3,7 @@
 use std::fs;
 use std::io::Write;
 use std::path::PathBuf;
-use std::process::{Command, Stdio};
+use std::process::{Command, Output, Stdio};
 
 pub const PROGRAM: &str = env!("CARGO_BIN_EXE_tjornsaki");
 
@@ -24,6 +24,14 @@ pub struct Ended {
     pub status: i32,
     pub out: Vec<u8>,
     pub err: String,
+}
+
+impl From<Output> for Ended {
+    /// The status is -1 if a signal ended it.
+    fn from(output: Output) -> Ended {
+        let err = String::from_utf8(output.stderr).unwrap();
+        Ended { status: output.status.code().unwrap_or(-1), out: output.stdout, err }
+    }
 }
 
 impl Ended {
@@ -94,6 +102,14 @@ impl Folder {
         command
     }
 
+    /// The command under strace, with options of its own.
+    pub fn traced(&self, options: &[&str], words: &[&str]) -> Command {
+        let mut command = Command::new("strace");
+        command.args(["-qq", "-f"]).args(options).args(emulator()).arg(PROGRAM).args(words);
+        command.current_dir(&self.path).env_remove("LD_LIBRARY_PATH");
+        command
+    }
+
     /// Runs with an input that does for commands that need one.
     pub fn run(&self, words: &[&str]) -> Ended {
         self.run_with(words, b"x")
@@ -106,9 +122,7 @@ impl Folder {
         let mut child = command.spawn().unwrap();
         // A command that fails early does not read its input.
         let _ = child.stdin.take().unwrap().write_all(input);
-        let output = child.wait_with_output().unwrap();
-        let err = String::from_utf8(output.stderr).unwrap();
-        Ended { status: output.status.code().unwrap(), out: output.stdout, err }
+        Ended::from(child.wait_with_output().unwrap())
     }
 
     pub fn file(&self, name: &str) -> PathBuf {
@@ -170,6 +184,12 @@ pub const READING: [&[&str]; 8] = [
 pub fn there_is(program: &str) -> bool {
     let found = Command::new(program).arg("--version").stdout(Stdio::null()).status();
     found.map_or(false, |status| status.success())
+}
+
+/// Whether strace can be used.
+pub fn able_to_trace() -> bool {
+    let tried = Command::new("strace").args(["-qq", "-o", "/dev/null", "true"]).output();
+    tried.map_or(false, |output| output.status.success())
 }
 
 /// Says that a test cannot run here, and why. The line also goes to the file that
