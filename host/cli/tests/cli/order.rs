@@ -47,6 +47,9 @@ fn steps(folder: &Folder, trace: &str) -> Vec<String> {
             None => continue,
         };
         let first = rest.split([',', ')']).next().unwrap_or_default();
+        // Some processors have them under longer names.
+        let call =
+            ["rename", "unlink"].into_iter().find(|name| call.starts_with(name)).unwrap_or(call);
         let path = match call {
             "openat" if went_well => {
                 open.insert(number, named.first().and_then(local).unwrap_or_default());
@@ -57,13 +60,11 @@ fn steps(folder: &Folder, trace: &str) -> Vec<String> {
                 continue;
             }
             "write" | "fsync" => open.get(first).cloned(),
-            _ if call.starts_with("rename") || call.starts_with("unlink") => {
-                named.last().and_then(local)
-            }
+            "rename" | "unlink" => named.last().and_then(local),
             _ => continue,
         };
         let path = path.filter(|path| went_well && !path.is_empty());
-        steps.extend(path.map(|path| format!("{call} {path}").replace("at ", " ")));
+        steps.extend(path.map(|path| format!("{call} {path}")));
     }
     steps
 }
