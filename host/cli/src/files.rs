@@ -95,9 +95,6 @@ pub fn resolved_other(path: &Path) -> Result<PathBuf, Failure> {
         name.windows(OWN.len()).any(|part| part == OWN.as_bytes())
     };
     let real = resolved(path);
-    if path.as_os_str().is_empty() {
-        return Err(Failure::usage("the name of a file is empty"));
-    }
     if own(path) || own(&real) {
         let words = "names with `.tj-` in them are the store's own, for its lock and its log";
         return Err(Failure::usage(format!("{} belongs to the store: {words}", path.display())));
@@ -214,7 +211,7 @@ pub fn remove(path: &Path) -> Result<(), Failure> {
 }
 
 /// Writes an output file: as a whole or not at all, unless it is a device, a
-/// pipe, or a file that belongs to another user.
+/// pipe, or a file of another user or in another user's folder.
 pub fn save(path: &Path, bytes: &[u8]) -> Result<(), Failure> {
     let failed = |error| Failure::file("write", path, &error);
     let real = resolved_other(path)?;

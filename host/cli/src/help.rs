@@ -176,7 +176,7 @@ Exit status:
   65        standard input, or a pipe, has no bytes
   66        a file or a folder is missing
   70        a fault of this program
-  73        a file exists that would be replaced
+  73        a file exists that would be replaced; a log waits for another pool
   74        a file cannot be read or written
   75        the store is locked by another command
   77        a file may not be read or written

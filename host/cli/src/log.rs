@@ -8,12 +8,13 @@
 //! | 8 | the sum over the pool's file from before the change, 0 if there was none |
 //! | 12 for each slot | new records |
 //! | 64 for each slot | new pool |
-//! | the rest | where the pool's file lies |
+//! | the rest | where the log lies, a zero byte, and where the pool's file does |
 //!
 //! A log of ours always passes the store's own audit; what does not is no log.
 
 use crate::failure::{Failure, BROKEN};
 use crate::files::MOST_BYTES;
+use crate::layout::{block, records, Block, Record};
 use crate::pair::Pair;
 use std::ffi::OsStr;
 use std::os::unix::ffi::OsStrExt;
@@ -30,7 +31,8 @@ pub const MOST_LOG: u64 = 2 * MOST_BYTES;
 #[derive(PartialEq, Eq)]
 pub struct Log {
     pub pair: Pair,
-    /// Where the pool lies that it was made on.
+    /// Where it was made, and where the pool lies that it was made on.
+    home: PathBuf,
     pub pool: PathBuf,
     /// The sum over that pool's file before the change.
     before: u64,
@@ -38,15 +40,16 @@ pub struct Log {
 
 impl Log {
     /// A change of the pool's file at a path, with what that file held.
-    pub fn new(pair: Pair, pool: &Path, file: Option<&[u8]>) -> Log {
-        Log { pair, pool: pool.to_path_buf(), before: file.map_or(0, sum) }
+    pub fn new(pair: Pair, home: &Path, pool: &Path, file: Option<&[u8]>) -> Log {
+        let (home, pool) = (home.to_path_buf(), pool.to_path_buf());
+        Log { pair, home, pool, before: file.map_or(0, sum) }
     }
 
     pub fn bytes(&self) -> Vec<u8> {
         let slots = (self.pair.records.len() / RECORD_BYTES) as u64;
         let head = [&MARK[..], &slots.to_le_bytes(), &self.before.to_le_bytes()].concat();
-        let path = self.pool.as_os_str().as_bytes();
-        [&head[..], &self.pair.records, &self.pair.pool, path].concat()
+        let [home, pool] = [&self.home, &self.pool].map(|path| path.as_os_str().as_bytes());
+        [&head[..], &self.pair.records, &self.pair.pool, home, b"\0", pool].concat()
     }
 
     /// The log in the bytes of a file.
@@ -62,14 +65,35 @@ impl Log {
         })
     }
 
-    /// Whether the change was made on the pool's file at this path: by where it
-    /// lies. Only where nothing lies there any more, since all was moved or is seen
-    /// from elsewhere, it is known by what it holds, which is the pool from before
-    /// the change or from after it, or nothing yet.
-    pub fn is_of(&self, path: &Path, file: impl FnOnce() -> Option<Vec<u8>>) -> bool {
-        let held = |file: Vec<u8>| sum(&file) == self.before || file == self.pair.pool;
-        self.pool == path || !self.pool.exists() && file().map_or(true, held)
+    /// Whether the change was made on the pool's file at this path, as seen from a
+    /// log that lies at `home`.
+    ///
+    /// A file that holds the pool from before the change or from after it, or that
+    /// is not there yet, is the one if it lies at its place; and also elsewhere if
+    /// the log itself was moved or copied, or nothing lies at that place any more.
+    /// At its place it is the one whatever it holds, unless that is ahead of the log,
+    /// which then is an old one that somebody brought back.
+    pub fn is_of(&self, home: &Path, path: &Path, file: Option<&[u8]>) -> bool {
+        let held = |file: &[u8]| sum(file) == self.before || file == self.pair.pool;
+        let known = file.map_or(true, held);
+        if self.home == home && self.pool == path {
+            known || !file.map_or(false, |file| ahead(file, &self.pair.records))
+        } else {
+            known && (self.home != home || !self.pool.exists())
+        }
     }
+}
+
+/// Whether a block is at a later version than its record.
+fn ahead(pool: &[u8], record_bytes: &[u8]) -> bool {
+    let later = |(slot, record): (usize, &Record)| {
+        let claims = |block: Block<'_>| {
+            let own = block.marked() && block.slot() == slot as u64;
+            own && block.version() > record.version
+        };
+        block(pool, slot).map_or(false, claims)
+    };
+    records(record_bytes).iter().enumerate().any(later)
 }
 
 fn parts(bytes: &[u8]) -> Option<Log> {
@@ -80,9 +104,11 @@ fn parts(bytes: &[u8]) -> Option<Log> {
     let records = rest.get(..slots * RECORD_BYTES)?;
     let rest = &rest[records.len()..];
     let pool = rest.get(..slots * BLOCK_BYTES)?;
-    let path = OsStr::from_bytes(&rest[pool.len()..]);
+    let mut paths = rest[pool.len()..].splitn(2, |byte| *byte == 0);
+    let mut path = || paths.next().map(|path| PathBuf::from(OsStr::from_bytes(path)));
+    let (home, at) = (path()?, path()?);
     let pair = Pair { pool: pool.to_vec(), records: records.to_vec() };
-    Some(Log { pair, pool: PathBuf::from(path), before })
+    Some(Log { pair, home, pool: at, before })
 }
 
 fn number(bytes: &[u8]) -> Option<u64> {
@@ -100,17 +126,26 @@ fn sum(bytes: &[u8]) -> u64 {
 mod tests {
     use super::*;
 
+    const PATHS: &str = "/nowhere/log\0/nowhere/pool";
+
     fn log() -> Log {
         let (mut pool, mut records) = tjornsaki::room(3);
         tjornsaki::wipe(&mut pool, &mut records).unwrap();
-        Log::new(Pair { pool, records }, Path::new("/nowhere/pool"), Some(b"before"))
+        tjornsaki::create(&mut pool, &mut records).unwrap();
+        let (home, at) = (Path::new("/nowhere/log"), Path::new("/nowhere/pool"));
+        Log::new(Pair { pool, records }, home, at, Some(b"before"))
+    }
+
+    /// Whether the log, at a place, is of a pool, at a place, with these bytes.
+    fn is_of(home: &str, pool: &str, bytes: Option<&[u8]>) -> bool {
+        log().is_of(Path::new(home), Path::new(pool), bytes)
     }
 
     #[test]
     fn bytes_and_back() {
         let bytes = log().bytes();
         let found = Log::parse(&bytes, Path::new("log")).ok().unwrap();
-        assert!(found.pair == log().pair && found.pool == log().pool && found.bytes() == bytes);
+        assert!(found == log() && found.bytes() == bytes && bytes.ends_with(PATHS.as_bytes()));
     }
 
     #[test]
@@ -128,17 +163,25 @@ mod tests {
 
     #[test]
     fn it_knows_its_pool() {
-        let (here, there) = (Path::new("/nowhere/pool"), Path::new("/elsewhere/pool"));
-        assert!(log().is_of(here, || Some(b"other".to_vec())));
-        assert!(log().is_of(there, || Some(b"before".to_vec())));
-        assert!(log().is_of(there, || Some(log().pair.pool)) && log().is_of(there, || None));
-        assert!(!log().is_of(there, || Some(b"other".to_vec())));
+        let after = log().pair.pool;
+        let mut ahead = after.clone();
+        ahead[8] += 1;
+        for (bytes, there) in [(&b"other"[..], false), (b"before", true), (&after, true)] {
+            assert!(is_of("/nowhere/log", "/nowhere/pool", Some(bytes)));
+            assert_eq!(is_of("/nowhere/log", "/elsewhere/pool", Some(bytes)), there);
+            assert_eq!(is_of("/elsewhere/log", "/nowhere/pool", Some(bytes)), there);
+        }
+        assert!(!is_of("/nowhere/log", "/nowhere/pool", Some(&ahead)));
+        assert!(is_of("/nowhere/log", "/nowhere/pool", None));
+        assert!(is_of("/elsewhere/log", "/elsewhere/pool", None));
     }
 
     #[test]
     fn a_copy_is_not_its_pool() {
         let log = Log { pool: std::env::current_exe().unwrap(), ..log() };
-        let copy = Path::new("/elsewhere/pool");
-        assert!(!log.is_of(copy, || Some(b"before".to_vec())) && !log.is_of(copy, || None));
+        let (home, copy) = (Path::new("/nowhere/log"), Path::new("/elsewhere/pool"));
+        assert!(!log.is_of(home, copy, Some(b"before")) && !log.is_of(home, copy, None));
+        let copied = Path::new("/elsewhere/log");
+        assert!(log.is_of(copied, copy, Some(b"before")) && log.is_of(copied, copy, None));
     }
 }

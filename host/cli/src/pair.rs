@@ -14,11 +14,11 @@
 //!   makes its change on what the log holds; its own log takes the place of the
 //!   one before, and it carries both.
 //!
-//! A log counts for the pool that it was made on, by its place (`log.rs`), and is
-//! carried to no other file: another pool, a copy too, is judged by the records of
-//! the log, and not changed.
+//! A log counts for the pool that it was made on (`Log::is_of`), and is carried to
+//! no other file: another pool, a copy too, or one that is ahead of the log, is
+//! judged by the records of the log, and not changed.
 
-use crate::failure::{Failure, EXISTS, LOCKED, MISSING};
+use crate::failure::{Failure, DENIED, EXISTS, LOCKED, MISSING};
 use crate::files::{
     beside, check_plain, check_writable, is_there, read, read_if_there, remove, resolved_other,
     same, save, Folder, MOST_BYTES,
@@ -84,12 +84,12 @@ impl Place {
         self.check_present()?;
         let _lock = self.lock_alone()?;
         let found = self.find()?;
-        self.check_changeable(&found)?;
+        self.check_writable(&found)?;
         let mut pair = found.pair.clone();
         let value = call(&mut pair)?;
+        self.check_carriable(&found)?;
         if pair != found.pair {
-            let file = if found.log.is_none() { Some(found.pair.pool) } else { self.pool_file() };
-            self.replace(pair, file)?;
+            self.replace(pair, self.pool_file())?;
         } else if found.log.is_some() {
             let (pool, records) = self.begin(&pair)?;
             self.carry(&Folder::of(&self.log)?, pool, records, &pair)?;
@@ -160,13 +160,22 @@ impl Place {
                 return Ok(Found { pair: Pair { pool, records }, log: None });
             }
         };
-        Folder::of(&self.log)?.sync()?;
+        self.settle()?;
         let pair = if self.is_of(&log) {
             log.pair.clone()
         } else {
             Pair { pool: read(&self.pool)?, records: log.pair.records.clone() }
         };
         Ok(Found { pair, log: Some(log) })
+    }
+
+    /// Waits until the disk has the log's name. A reader who may not open the
+    /// folder cannot.
+    fn settle(&self) -> Result<(), Failure> {
+        match Folder::of(&self.log) {
+            Err(Failure::Other(DENIED, _)) => Ok(()),
+            folder => folder?.sync(),
+        }
     }
 
     /// The same without a lock: what is found twice was not changed meanwhile, for
@@ -186,22 +195,28 @@ impl Place {
     }
 
     fn is_of(&self, log: &Log) -> bool {
-        log.is_of(&self.pool, || self.pool_file())
+        log.is_of(&self.log, &self.pool, self.pool_file().as_deref())
     }
 
-    /// Fails if a file may not be written, or a log waits for another pool.
-    fn check_changeable(&self, found: &Found) -> Result<(), Failure> {
+    /// Fails if a file may not be written.
+    fn check_writable(&self, found: &Found) -> Result<(), Failure> {
         for path in [&self.records, &self.pool] {
             if found.log.is_none() || is_there(path)? {
                 check_writable(path)?;
             }
         }
+        Ok(())
+    }
+
+    /// Fails if a log waits for another pool.
+    fn check_carriable(&self, found: &Found) -> Result<(), Failure> {
         match &found.log {
             Some(log) if !self.is_of(log) => {
                 let (log_name, pool) = (self.log.display(), log.pool.display());
                 let words = format!(
-                    "{log_name} holds a change of the pool {pool} that has to be carried there \
-                     first: let a changing command name that pool"
+                    "{log_name} holds a change of the pool {pool}, and {} is another: until that \
+                     change is carried on, no other is made",
+                    self.pool.display()
                 );
                 Err(Failure::Other(EXISTS, words))
             }
@@ -245,7 +260,7 @@ impl Place {
     /// these bytes until then.
     fn replace(&self, pair: Pair, file: Option<Vec<u8>>) -> Result<(), Failure> {
         let (pool, records) = self.begin(&pair)?;
-        let log = Log::new(pair, &self.pool, file.as_deref());
+        let log = Log::new(pair, &self.log, &self.pool, file.as_deref());
         let folder = New::like(&self.log, &self.records)?.put_unsettled(&log.bytes())?;
         self.carry(&folder, pool, records, &log.pair).map_err(|failure| {
             failure.after("the change is made, and the next change carries it on")

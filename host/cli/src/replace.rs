@@ -6,12 +6,13 @@
 //! goes away.
 //!
 //! Where owner and group cannot be kept, since the old file belongs to somebody
-//! else and this is not root's command, the old file is written over instead.
+//! else and this is not root's command, and where its folder may not be written,
+//! the old file is written over instead.
 //!
 //! A rename can be done and yet be reported as failed, on network storage say.
 //! So after a failure it is looked which file has the name.
 
-use crate::failure::Failure;
+use crate::failure::{Failure, DENIED};
 use crate::files::{
     beside, check_plain, is_there, keep_owner, names, open_plain_to_write, remove, Folder,
 };
@@ -83,41 +84,20 @@ impl New {
         clear: impl Fn(&Path),
     ) -> Result<New, Failure> {
         check_plain(path)?;
-        let folder = Folder::of(path)?;
-        let mut options = OpenOptions::new();
-        options.write(true).create_new(true);
-        if is_there(like)? {
-            options.mode(0o600);
-        }
-        for attempt in 0..TRIES {
-            let staged = name(attempt);
-            clear(&staged);
-            match options.open(&staged) {
-                Ok(file) => {
-                    let new = New {
-                        file,
-                        folder,
-                        path: path.to_path_buf(),
-                        staged: Staged(Some(staged)),
-                    };
-                    return new.kept(like);
+        let (folder, path_there) = (Folder::of(path)?, path == like && is_there(path)?);
+        let path = path.to_path_buf();
+        match create(is_there(like)?, name, clear) {
+            Ok((file, staged)) => {
+                // A log has no old file: its maker's owner will do.
+                let kept = keep_owner(&file, like).is_ok() || !path_there;
+                if kept {
+                    return Ok(New { file, folder, path, staged });
                 }
-                Err(error) if error.kind() == io::ErrorKind::AlreadyExists => continue,
-                Err(error) => return Err(Failure::file("write", &staged, &error)),
             }
+            Err(Failure::Other(DENIED, _)) if path_there => (),
+            Err(failure) => return Err(failure),
         }
-        let error = io::Error::from(io::ErrorKind::AlreadyExists);
-        Err(Failure::file("write", &name(0), &error))
-    }
-
-    /// Keeps owner and mode, or else takes the old file itself. A log has no old
-    /// file: its maker's owner will do.
-    fn kept(mut self, like: &Path) -> Result<New, Failure> {
-        if keep_owner(&self.file, like).is_err() && self.path == like {
-            self.file = open_plain_to_write(like)?;
-            self.staged = Staged(None);
-        }
-        Ok(self)
+        Ok(New { file: open_plain_to_write(&path)?, folder, path, staged: Staged(None) })
     }
 
     /// Gives it its bytes, and lets it take the place of the old file, which the
@@ -157,4 +137,28 @@ impl New {
             _ => Err(error.with("it may have been done all the same")),
         }
     }
+}
+
+/// Makes a file under the first name that can be had; a private one can only be
+/// read by its maker.
+fn create(
+    private: bool,
+    name: impl Fn(u32) -> PathBuf,
+    clear: impl Fn(&Path),
+) -> Result<(File, Staged), Failure> {
+    let mut options = OpenOptions::new();
+    options.write(true).create_new(true);
+    if private {
+        options.mode(0o600);
+    }
+    let mut last = io::Error::from(io::ErrorKind::AlreadyExists);
+    for staged in (0..TRIES).map(&name) {
+        clear(&staged);
+        match options.open(&staged) {
+            Ok(file) => return Ok((file, Staged(Some(staged)))),
+            Err(error) if error.kind() == io::ErrorKind::AlreadyExists => last = error,
+            Err(error) => return Err(Failure::file("write", &staged, &error)),
+        }
+    }
+    Err(Failure::file("write", &name(0), &last))
 }

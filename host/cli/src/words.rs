@@ -110,7 +110,7 @@ impl Words {
         let value = parts.next().map(|value| OsStr::from_bytes(value).to_os_string());
         let is_name = |known: &&str| *known == name;
         if EVERYWHERE.iter().chain(self.command.options).any(is_name) {
-            let value = value.or_else(|| rest.next());
+            let value = value.or_else(|| rest.next()).filter(|value| !value.is_empty());
             let value = value.ok_or_else(|| self.mistake(format!("{name} needs a value")))?;
             self.options.push((name, value));
             return Ok(());
@@ -124,9 +124,12 @@ impl Words {
         Err(self.mistake(format!("unknown option {}{hint}", word.to_string_lossy())))
     }
 
-    /// Fails if there are too few or too many words.
+    /// Fails if there are too few or too many words, or one is empty.
     fn count(&self) -> Result<(), Failure> {
         let names = self.command.words;
+        if self.words.iter().any(|word| word.is_empty()) {
+            return Err(self.mistake("a word is empty".into()));
+        }
         if self.words.len() > names.len() {
             let word = self.words[names.len()].to_string_lossy().into_owned();
             return Err(self.mistake(format!("`{word}` is one word too many")));
@@ -173,9 +176,15 @@ impl Words {
         }
     }
 
-    /// The file named at this place; none for `-` or where none is named.
+    /// The file named at this place; none where none is named, or the standard one,
+    /// which goes on where others left it.
     pub fn file(&self, place: usize) -> Option<PathBuf> {
-        self.words.get(place).filter(|word| *word != "-").map(PathBuf::from)
+        self.words.get(place).filter(|word| !is_standard(word)).map(PathBuf::from)
+    }
+
+    /// The file that an option names for the output, in the same way.
+    pub fn output(&self, option: &str) -> Option<PathBuf> {
+        self.value(option).filter(|word| !is_standard(word)).map(PathBuf::from)
     }
 
     /// A file from an option, else from the environment, else by default.
@@ -190,4 +199,8 @@ impl Words {
         let seconds = self.number_of("--wait")?.unwrap_or(1);
         Ok(Duration::from_secs(seconds))
     }
+}
+
+fn is_standard(word: &OsStr) -> bool {
+    ["-", "/dev/stdin", "/dev/stdout"].iter().any(|name| word == *name)
 }

@@ -10,7 +10,6 @@ use crate::pair::Pair;
 use crate::reason::{explained, Question};
 use crate::wording::counted;
 use crate::words::Words;
-use std::path::PathBuf;
 use tjornsaki::{Refusal, BLOCK_BYTES, RECORD_BYTES};
 
 /// What is done once an output file has its name.
@@ -90,7 +89,7 @@ pub fn draw(words: &Words, source: &dyn Source) -> Result<Answer, Failure> {
     let svg = draw::draw(&pair.pool, &pair.records)?;
     let slots = (pair.records.len() / RECORD_BYTES) as u64;
     let mut fields = vec![("slots", Json::Number(slots))];
-    match words.value("--out").filter(|out| *out != "-").map(PathBuf::from) {
+    match words.output("--out") {
         Some(path) => {
             source.save(&path, svg.as_bytes())?;
             let words = format!("picture of {} in {}", counted(slots, "slot"), path.display());

@@ -32,18 +32,22 @@ fn cut(name: &str) -> Cut {
 }
 
 impl Cut {
-    /// The log of the change, made on the pool at this path.
+    /// The log of the change, made in its place on the pool at this path.
     fn log(&self, path: &Path) -> Vec<u8> {
         let slots = (self.records.len() / 12) as u64;
         let before = sum(&self.folder.read(POOL));
-        let path = path.as_os_str().as_bytes();
+        let home = fs::canonicalize(&self.folder.path).unwrap().join(LOG);
+        let paths = [&home, path].map(|path| path.as_os_str().as_bytes()).join(&0);
         let head = [&b"tjornsaki log 1\n"[..], &slots.to_le_bytes(), &before.to_le_bytes()];
-        [&head.concat(), &self.records[..], &self.pool, path].concat()
+        [&head.concat(), &self.records[..], &self.pool, &paths].concat()
     }
 
     fn lay_log(&self) {
-        let path = fs::canonicalize(self.folder.file(POOL)).unwrap();
-        self.folder.write(LOG, &self.log(&path));
+        self.folder.write(LOG, &self.log_here());
+    }
+
+    fn log_here(&self) -> Vec<u8> {
+        self.log(&fs::canonicalize(self.folder.file(POOL)).unwrap())
     }
 
     /// The store is sound with these bytes, and can be changed again.
@@ -158,9 +162,12 @@ fn a_log_is_carried_to_its_own_pool_only() {
     for (other, status) in [("copy", 6), ("notes", 1)] {
         let before = (cut.folder.read(other), cut.folder.names());
         cut.folder.run(&["get", "0", "--pool", other]).fails(status, "refused");
-        cut.folder.run(&["put", "0", "--pool", other]).fails(73, "holds a change of the pool");
+        cut.folder.run(&["put", "0", "--pool", other]).fails(status, "refused");
         assert_eq!((cut.folder.read(other), cut.folder.names()), before);
     }
+    cut.folder.write("after", &cut.pool);
+    cut.folder.run(&["get", "0", "--pool", "after"]).gives("new");
+    cut.folder.run(&["put", "0", "--pool", "after"]).fails(73, "holds a change of the pool");
     cut.folder.run(&["get", "0", "--pool", "typo"]).fails(66, "typo");
     cut.folder.run(&["put", "0", "--pool", "typo"]).fails(66, "typo");
     cut.goes_on(b"new");
@@ -180,6 +187,45 @@ fn a_pool_that_moved_is_found() {
         }
         cut.goes_on(b"new");
     }
+}
+
+/// Somebody brings back records and log from before later changes: the pool is
+/// ahead of them, and stays.
+#[test]
+fn an_old_log_destroys_no_newer_pool() {
+    for place in ["in its place", "as a copy"] {
+        let cut = cut(&format!("cut_old_log_{}", place.len()));
+        let (log, records) = (cut.log_here(), cut.folder.read(RECORDS));
+        for text in [&b"later"[..], b"and later"] {
+            assert_eq!(cut.folder.run_with(&["put", "0"], text).status, 0);
+        }
+        let newer = cut.folder.read(POOL);
+        let name = if place == "as a copy" { "copied" } else { RECORDS };
+        cut.folder.write(name, &records);
+        cut.folder.write(&format!("{name}.tj-log"), &log);
+        for command in [&["get", "0"][..], &["audit"], &["put", "0"], &["create"]] {
+            let words = [command, &["--records", name]].concat();
+            cut.folder.run(&words).fails(7, "refused 7: slot 0 is ahead of its record");
+        }
+        assert_eq!(cut.folder.read(POOL), newer, "{place}");
+    }
+}
+
+/// All of a store is copied while a log waits: the copy is a store of its own.
+#[test]
+fn a_copy_of_all_goes_on() {
+    let cut = cut("cut_copy");
+    cut.lay_log();
+    fs::create_dir(cut.folder.file("copy")).unwrap();
+    for name in [POOL, RECORDS, LOG] {
+        fs::copy(cut.folder.file(name), cut.folder.file("copy").join(name)).unwrap();
+    }
+    let place = ["--pool", "copy/store.pool", "--records", "copy/store.records"];
+    let before = cut.folder.store();
+    cut.folder.run(&[&["get", "0"][..], &place].concat()).gives("new");
+    cut.folder.run(&[&["create"][..], &place].concat()).gives("1\n");
+    assert_eq!(cut.folder.store(), before);
+    cut.goes_on(b"new");
 }
 
 /// A pipe in the pool's place is waited for by nobody.

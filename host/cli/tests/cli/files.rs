@@ -36,9 +36,10 @@ fn lost_records() {
 #[test]
 fn empty_names() {
     let folder = Folder::new("empty_names");
-    for words in [&["init", "--pool="][..], &["init", "--records", ""], &["audit", "--pool", ""]] {
-        folder.run(words).fails(64, "the name of a file is empty");
+    for words in [&["init", "--pool="][..], &["audit", "--records", ""], &["demo", "--out", ""]] {
+        folder.run(words).fails(64, " needs a value");
     }
+    folder.run(&["put", "0", ""]).fails(64, "a word is empty");
     assert!(folder.names().is_empty());
 }
 

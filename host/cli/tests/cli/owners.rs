@@ -176,3 +176,25 @@ fn a_reader_without_the_lock() {
     let mut command = home.command(&["get", "0"]);
     assert_eq!(command.uid(FRIEND).gid(FRIEND).output().unwrap().stdout, hundred());
 }
+
+/// Files that may be written in a folder that may not: they are written over.
+#[test]
+fn a_folder_that_may_not_be_written() {
+    let home = match home("folder", 0o600) {
+        Some(home) => home,
+        None => return,
+    };
+    let carrier = home.folder.file("carrier");
+    fs::create_dir(&carrier).unwrap();
+    for name in ["pool", "out"] {
+        fs::copy(home.file("store.pool"), carrier.join(name)).unwrap();
+        assert!(chown(&carrier.join(name), OWNER, OWNER));
+    }
+    let place = ["--pool", "../carrier/pool"];
+    let words = [&["put", "0"][..], &place].concat();
+    home.run(OWNER, &words, b"written over").gives("blob 0 has 12 bytes\n");
+    let words = [&["get", "0", "../carrier/out"][..], &place].concat();
+    home.run(OWNER, &words, b"").gives("12 bytes to ../carrier/out\n");
+    assert_eq!(fs::read(carrier.join("out")).unwrap(), b"written over");
+    assert_eq!(fs::read_dir(carrier).unwrap().count(), 2);
+}

@@ -150,3 +150,14 @@ fn an_unread_list_keeps_its_status() {
         assert_eq!(status, 4, "{command}");
     }
 }
+
+/// Standard output by its other name goes on where others left it.
+#[test]
+fn standard_output_by_its_name() {
+    if !there_is("bash") {
+        return skipped("no bash");
+    }
+    let folder = Folder::with_blob("pipe_name");
+    let (status, ..) = shell(&folder, "(echo a; t get 0 /dev/stdout; echo b) >> log");
+    assert_eq!((status, folder.read("log")), (0, [b"a\n", &hundred()[..], b"b\n"].concat()));
+}
