@@ -26,7 +26,7 @@ fn main() {
 }
 
 fn library_folder() -> PathBuf {
-    match env::var_os(OVERRIDE) {
+    match env::var_os(OVERRIDE).filter(|folder| !folder.is_empty()) {
         Some(folder) => PathBuf::from(folder),
         None => PathBuf::from(env!("CARGO_MANIFEST_DIR")).join("../../target/staticlib"),
     }
