@@ -54,11 +54,10 @@ impl Answer {
         } else {
             print_bytes(&self.plain)
         };
-        match (printed, self.done) {
-            (Err(Failure::Unread), _) if !self.needed => (),
-            (Err(failure), Some(done)) => return Err(failure.after(done)),
-            (Err(failure), None) => return Err(failure.or_unread()),
-            (Ok(()), _) => (),
+        match printed {
+            Err(Failure::Unread) if !self.needed => (),
+            Err(failure) => return Err(failure.after(self.done)),
+            Ok(()) => (),
         }
         Ok(self.failure.map_or(0, |failure| failure.status()))
     }

@@ -35,7 +35,7 @@ pub enum Failure {
     Other(u8, String),
     /// The same, but what was asked for is done, and need not be tried again.
     Done(u8, String),
-    /// Nobody reads the output any more; nothing is to be said.
+    /// Nobody reads the output to its end; to some commands that is no failure.
     Unread,
 }
 
@@ -75,20 +75,14 @@ impl Failure {
         }
     }
 
-    /// The same, after what was asked for is done.
-    pub fn after(self, done: &str) -> Failure {
-        match self {
-            Failure::Other(status, words) => Failure::Done(status, format!("{words}; {done}")),
-            Failure::Unread => Failure::Done(BROKEN, format!("{UNREAD}; {done}")),
-            other => other,
-        }
-    }
-
-    /// The same where it matters that somebody reads the output.
-    pub fn or_unread(self) -> Failure {
-        match self {
-            Failure::Unread => Failure::Other(BROKEN, UNREAD.into()),
-            other => other,
+    /// The same, after something was done, if it was.
+    pub fn after(self, done: Option<&str>) -> Failure {
+        match (self, done) {
+            (Failure::Other(status, words), Some(done)) => {
+                Failure::Done(status, format!("{words}; {done}"))
+            }
+            (Failure::Unread, Some(done)) => Failure::Done(BROKEN, format!("{UNREAD}; {done}")),
+            (other, _) => other,
         }
     }
 
@@ -97,7 +91,7 @@ impl Failure {
         match self {
             Failure::Refused(refusal) | Failure::Explained(refusal, _) => refusal.number as u8,
             Failure::Other(status, _) | Failure::Done(status, _) => *status,
-            Failure::Unread => 0,
+            Failure::Unread => BROKEN,
         }
     }
 }
@@ -116,7 +110,7 @@ impl fmt::Display for Failure {
                 write!(out, "refused {}: {}", refusal.number, reason.sentence)
             }
             Failure::Other(_, words) | Failure::Done(_, words) => write!(out, "{words}"),
-            Failure::Unread => Ok(()),
+            Failure::Unread => out.write_str(UNREAD),
         }
     }
 }

@@ -31,11 +31,20 @@ pub const MOST_LOG: u64 = 2 * MOST_BYTES;
 #[derive(PartialEq, Eq)]
 pub struct Log {
     pub pair: Pair,
-    /// Where it was made, and where the pool lies that it was made on.
+    /// Where it was made.
     home: PathBuf,
+    /// Where the pool lies that it was made on.
     pub pool: PathBuf,
     /// The sum over that pool's file before the change.
     before: u64,
+}
+
+/// What lies where a pool is looked for.
+#[derive(Clone, Copy)]
+pub enum Lies<'a> {
+    Bytes(&'a [u8]),
+    Nothing,
+    Unreadable,
 }
 
 impl Log {
@@ -73,11 +82,14 @@ impl Log {
     /// the log itself was moved or copied, or nothing lies at that place any more.
     /// At its place it is the one whatever it holds, unless that is ahead of the log,
     /// which then is an old one that somebody brought back.
-    pub fn is_of(&self, home: &Path, path: &Path, file: Option<&[u8]>) -> bool {
-        let held = |file: &[u8]| sum(file) == self.before || file == self.pair.pool;
-        let known = file.map_or(true, held);
+    pub fn is_of(&self, home: &Path, path: &Path, lies: Lies<'_>) -> bool {
+        let known = match lies {
+            Lies::Bytes(file) => sum(file) == self.before || file == self.pair.pool,
+            Lies::Nothing => true,
+            Lies::Unreadable => false,
+        };
         if self.home == home && self.pool == path {
-            known || !file.map_or(false, |file| ahead(file, &self.pair.records))
+            known || !matches!(lies, Lies::Bytes(file) if ahead(file, &self.pair.records))
         } else {
             known && (self.home != home || !self.pool.exists())
         }
@@ -136,9 +148,9 @@ mod tests {
         Log::new(Pair { pool, records }, home, at, Some(b"before"))
     }
 
-    /// Whether the log, at a place, is of a pool, at a place, with these bytes.
-    fn is_of(home: &str, pool: &str, bytes: Option<&[u8]>) -> bool {
-        log().is_of(Path::new(home), Path::new(pool), bytes)
+    /// Whether the log, at a place, is of a pool, at a place, with what lies there.
+    fn is_of(home: &str, pool: &str, lies: Lies<'_>) -> bool {
+        log().is_of(Path::new(home), Path::new(pool), lies)
     }
 
     #[test]
@@ -166,22 +178,31 @@ mod tests {
         let after = log().pair.pool;
         let mut ahead = after.clone();
         ahead[8] += 1;
-        for (bytes, there) in [(&b"other"[..], false), (b"before", true), (&after, true)] {
-            assert!(is_of("/nowhere/log", "/nowhere/pool", Some(bytes)));
-            assert_eq!(is_of("/nowhere/log", "/elsewhere/pool", Some(bytes)), there);
-            assert_eq!(is_of("/elsewhere/log", "/nowhere/pool", Some(bytes)), there);
+        let [before, after, ahead, other] =
+            [b"before", &after[..], &ahead, b"other"].map(Lies::Bytes);
+        // At its place; then elsewhere, or seen from a log that was moved.
+        let cases = [
+            (before, true, true),
+            (after, true, true),
+            (Lies::Nothing, true, true),
+            (other, true, false),
+            (Lies::Unreadable, true, false),
+            (ahead, false, false),
+        ];
+        for (lies, here, elsewhere) in cases {
+            assert_eq!(is_of("/nowhere/log", "/nowhere/pool", lies), here);
+            assert_eq!(is_of("/nowhere/log", "/elsewhere/pool", lies), elsewhere);
+            assert_eq!(is_of("/elsewhere/log", "/nowhere/pool", lies), elsewhere);
         }
-        assert!(!is_of("/nowhere/log", "/nowhere/pool", Some(&ahead)));
-        assert!(is_of("/nowhere/log", "/nowhere/pool", None));
-        assert!(is_of("/elsewhere/log", "/elsewhere/pool", None));
     }
 
     #[test]
     fn a_copy_is_not_its_pool() {
         let log = Log { pool: std::env::current_exe().unwrap(), ..log() };
         let (home, copy) = (Path::new("/nowhere/log"), Path::new("/elsewhere/pool"));
-        assert!(!log.is_of(home, copy, Some(b"before")) && !log.is_of(home, copy, None));
         let copied = Path::new("/elsewhere/log");
-        assert!(log.is_of(copied, copy, Some(b"before")) && log.is_of(copied, copy, None));
+        for lies in [Lies::Bytes(b"before"), Lies::Nothing] {
+            assert!(!log.is_of(home, copy, lies) && log.is_of(copied, copy, lies));
+        }
     }
 }

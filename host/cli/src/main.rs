@@ -71,16 +71,17 @@ fn page(args: &[OsString]) -> Option<String> {
     }
 }
 
+/// Prints a text that nobody has to read to its end.
 fn print(text: &str) -> Result<u8, Told> {
-    answer::print_bytes(text.as_bytes()).map(|()| 0).map_err(|failure| (None, failure))
+    match answer::print_bytes(text.as_bytes()) {
+        Ok(()) | Err(Failure::Unread) => Ok(0),
+        Err(failure) => Err((None, failure)),
+    }
 }
 
 /// Says what failed: to people on standard error, to machines on output, or on
 /// standard error too if nothing gets out there.
 fn tell(args: &[OsString], command: Option<&'static str>, failure: &Failure) {
-    if matches!(failure, Failure::Unread) {
-        return;
-    }
     let machine = args.iter().take_while(|word| *word != "--").any(|word| word == "--json");
     let object = || format!("{}\n", json::failure(command, failure));
     if !machine || answer::print_bytes(object().as_bytes()).is_err() {

@@ -24,7 +24,7 @@ use crate::files::{
     same, save, Folder, MOST_BYTES,
 };
 use crate::lock::{self, Lock};
-use crate::log::{Log, MOST_LOG};
+use crate::log::{Lies, Log, MOST_LOG};
 use crate::replace::New;
 use std::fs;
 use std::path::{Path, PathBuf};
@@ -49,12 +49,23 @@ pub struct Place {
     named: [PathBuf; 2],
 }
 
-/// A store as found.
+/// A store as found. The pool's file is read once.
 #[derive(PartialEq, Eq)]
 struct Found {
     pair: Pair,
-    /// A change that waits to be carried on.
-    log: Option<Log>,
+    /// What the pool's file holds, if it is there and can be read.
+    file: Option<Vec<u8>>,
+    waits: Waits,
+}
+
+/// Whether a log waits to be carried on.
+#[derive(PartialEq, Eq)]
+enum Waits {
+    Nothing,
+    /// A change of this pool.
+    Here,
+    /// A change of another pool, at this path.
+    Elsewhere(PathBuf),
 }
 
 impl Place {
@@ -84,13 +95,13 @@ impl Place {
         self.check_present()?;
         let _lock = self.lock_alone()?;
         let found = self.find()?;
-        self.check_writable(&found)?;
+        self.check_files(&found.waits)?;
         let mut pair = found.pair.clone();
         let value = call(&mut pair)?;
-        self.check_carriable(&found)?;
+        self.check_log(&found.waits)?;
         if pair != found.pair {
-            self.replace(pair, self.pool_file())?;
-        } else if found.log.is_some() {
+            self.replace(pair, found.file.as_deref())?;
+        } else if found.waits == Waits::Here {
             let (pool, records) = self.begin(&pair)?;
             self.carry(&Folder::of(&self.log)?, pool, records, &pair)?;
         }
@@ -100,8 +111,10 @@ impl Place {
     /// Makes both files anew; files that exist are only replaced by `force`.
     pub fn make(&self, pair: Pair, force: bool) -> Result<(), Failure> {
         let lock = self.lock_alone()?;
-        let made =
-            self.check_replaceable(force).and_then(|()| self.replace(pair, self.pool_file()));
+        let made = self.check_replaceable(force).and_then(|()| {
+            let file = read_if_there(&self.pool, MOST_BYTES)?;
+            self.replace(pair, file.as_deref())
+        });
         if made.is_err() && !self.records.exists() && !self.log.exists() {
             lock.take_away();
         }
@@ -157,16 +170,24 @@ impl Place {
             Some(bytes) => Log::parse(&bytes, &self.log)?,
             None => {
                 let (records, pool) = (read(&self.records)?, read(&self.pool)?);
-                return Ok(Found { pair: Pair { pool, records }, log: None });
+                let file = Some(pool.clone());
+                return Ok(Found { pair: Pair { pool, records }, file, waits: Waits::Nothing });
             }
         };
         self.settle()?;
-        let pair = if self.is_of(&log) {
-            log.pair.clone()
-        } else {
-            Pair { pool: read(&self.pool)?, records: log.pair.records.clone() }
+        let file = read_if_there(&self.pool, MOST_BYTES);
+        let lies = match &file {
+            Ok(Some(bytes)) => Lies::Bytes(bytes),
+            Ok(None) => Lies::Nothing,
+            Err(_) => Lies::Unreadable,
         };
-        Ok(Found { pair, log: Some(log) })
+        if log.is_of(&self.log, &self.pool, lies) {
+            let file = file.unwrap_or(None);
+            return Ok(Found { pair: log.pair, file, waits: Waits::Here });
+        }
+        let pool = file?.ok_or_else(|| self.missing(false, true))?;
+        let (file, waits) = (Some(pool.clone()), Waits::Elsewhere(log.pool));
+        Ok(Found { pair: Pair { pool, records: log.pair.records }, file, waits })
     }
 
     /// Waits until the disk has the log's name. A reader who may not open the
@@ -194,14 +215,10 @@ impl Place {
         }
     }
 
-    fn is_of(&self, log: &Log) -> bool {
-        log.is_of(&self.log, &self.pool, self.pool_file().as_deref())
-    }
-
     /// Fails if a file may not be written.
-    fn check_writable(&self, found: &Found) -> Result<(), Failure> {
+    fn check_files(&self, waits: &Waits) -> Result<(), Failure> {
         for path in [&self.records, &self.pool] {
-            if found.log.is_none() || is_there(path)? {
+            if *waits == Waits::Nothing || is_there(path)? {
                 check_writable(path)?;
             }
         }
@@ -209,19 +226,17 @@ impl Place {
     }
 
     /// Fails if a log waits for another pool.
-    fn check_carriable(&self, found: &Found) -> Result<(), Failure> {
-        match &found.log {
-            Some(log) if !self.is_of(log) => {
-                let (log_name, pool) = (self.log.display(), log.pool.display());
-                let words = format!(
-                    "{log_name} holds a change of the pool {pool}, and {} is another: until that \
-                     change is carried on, no other is made",
-                    self.pool.display()
-                );
-                Err(Failure::Other(EXISTS, words))
-            }
-            _ => Ok(()),
-        }
+    fn check_log(&self, waits: &Waits) -> Result<(), Failure> {
+        let other = match waits {
+            Waits::Elsewhere(other) => other.display(),
+            _ => return Ok(()),
+        };
+        let (log, pool) = (self.log.display(), self.pool.display());
+        let words = format!(
+            "{log} holds a change of the pool {other}, and {pool} is another: until that change is \
+             carried on, no other is made"
+        );
+        Err(Failure::Other(EXISTS, words))
     }
 
     /// Fails if something is there that `init` is not to replace, or that is too
@@ -251,19 +266,14 @@ impl Place {
         Ok(())
     }
 
-    /// What the pool's file holds now, if it can be read.
-    fn pool_file(&self) -> Option<Vec<u8>> {
-        read(&self.pool).ok()
-    }
-
     /// Both files at once, as the head of this file tells. The pool's file holds
     /// these bytes until then.
-    fn replace(&self, pair: Pair, file: Option<Vec<u8>>) -> Result<(), Failure> {
+    fn replace(&self, pair: Pair, file: Option<&[u8]>) -> Result<(), Failure> {
         let (pool, records) = self.begin(&pair)?;
-        let log = Log::new(pair, &self.log, &self.pool, file.as_deref());
+        let log = Log::new(pair, &self.log, &self.pool, file);
         let folder = New::like(&self.log, &self.records)?.put_unsettled(&log.bytes())?;
         self.carry(&folder, pool, records, &log.pair).map_err(|failure| {
-            failure.after("the change is made, and the next change carries it on")
+            failure.after(Some("the change is made, and the next change carries it on"))
         })
     }
 

@@ -2,7 +2,8 @@
 //! with the records on the trusted side and the pool on the carrier's. What lies
 //! on the carrier's side at any step is kept. Then the store goes on with another
 //! change, and each kept file is handed back as the pool: every reading command
-//! refuses it, or answers what is truly stored.
+//! refuses it, or answers what is truly stored. While a log waits, each is handed
+//! back before the next change too.
 //!
 //! The steps are found and broken by strace, over the emulator too; without it,
 //! or without the right to use it, these tests are skipped.
@@ -48,8 +49,8 @@ struct Trial {
     /// Every content that a file on the carrier's side had up to this step. A
     /// change is killed at one step after the other, so that none is left out.
     kept: BTreeSet<Vec<u8>>,
-    /// Records and contents that were tried.
-    tried: BTreeSet<(Vec<u8>, Vec<u8>)>,
+    /// What lay on the trusted side, and contents that were tried with it.
+    tried: BTreeSet<(Files, Vec<u8>)>,
     /// What was found in all these files, and what the next change left of them:
     /// the same files are not tried again.
     seen: BTreeMap<Files, (Look, Files)>,
@@ -158,6 +159,9 @@ impl Trial {
         let (files, carried) = (self.files(), self.carried());
         if !self.seen.contains_key(&files) {
             let found = self.look();
+            if files.contains_key("safe/records.tj-log") {
+                self.hand_back(carried.clone());
+            }
             self.go_on(found[0].0);
             self.seen.insert(files.clone(), (found, self.files()));
         }
@@ -186,14 +190,18 @@ impl Trial {
         assert_eq!(left, ["carrier/pool", "safe/records", "safe/records.tj-lock"]);
     }
 
-    /// Hands back each file that was kept up to now, and these.
+    /// Hands back each file that was kept up to now, and these, and leaves the
+    /// pool as it was.
     fn hand_back(&mut self, more: Vec<Vec<u8>>) {
-        let (records, pool) = (self.folder.read("safe/records"), self.folder.read("carrier/pool"));
+        let files = self.files();
+        let pool = files.get("carrier/pool").cloned().unwrap_or_default();
+        let trusted: Files =
+            files.clone().into_iter().filter(|(name, _)| name.starts_with("safe")).collect();
         let tried = &mut self.tried;
         let kept = self.kept.iter().cloned().chain(more);
         let new = kept.filter(|bytes| *bytes != pool);
         let new: Vec<_> =
-            new.filter(|bytes| tried.insert((records.clone(), bytes.clone()))).collect();
+            new.filter(|bytes| tried.insert((trusted.clone(), bytes.clone()))).collect();
         if new.is_empty() {
             return;
         }
@@ -205,7 +213,7 @@ impl Trial {
                 assert!(right, "{found:?} where {true_one:?} is stored");
             }
         }
-        self.folder.write("carrier/pool", &pool);
+        self.lay(&files);
     }
 }
 

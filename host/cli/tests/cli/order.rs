@@ -7,11 +7,11 @@ use std::fs;
 
 const PLACE: [&str; 4] = ["--records", "safe/records", "--pool", "carrier/pool"];
 
-/// A store on two sides with one empty blob, if strace can be used.
-fn prepared(name: &str) -> Option<Folder> {
+/// Tries something on a store on two sides with one empty blob, if strace can be
+/// used.
+fn on_two_sides(name: &str, test: impl Fn(&Folder)) {
     if !able_to_trace() {
-        skipped("strace is missing, or may not be used");
-        return None;
+        return skipped("strace is missing, or may not be used");
     }
     let folder = Folder::new(name);
     for side in ["safe", "carrier"] {
@@ -20,7 +20,7 @@ fn prepared(name: &str) -> Option<Folder> {
     folder.write("new", b"new");
     folder.run(&[&["init"][..], &PLACE].concat()).gives("16 free slots\n");
     folder.run(&[&["create"][..], &PLACE].concat()).gives("0\n");
-    Some(folder)
+    test(&folder);
 }
 
 /// What strace says of a command.
@@ -71,31 +71,30 @@ fn steps(folder: &Folder, trace: &str) -> Vec<String> {
 
 #[test]
 fn a_change() {
-    let folder = match prepared("order") {
-        Some(folder) => folder,
-        None => return,
-    };
-    let trace = trace(&folder, &["put", "0", "new"]);
-    let wanted = [
-        "write safe/records.tj-log.tj-new",
-        "fsync safe/records.tj-log.tj-new",
-        "rename safe/records.tj-log",
-        "fsync safe",
-        "write carrier/pool.tj-new",
-        "fsync carrier/pool.tj-new",
-        "rename carrier/pool",
-        "fsync carrier",
-        "write safe/records.tj-new",
-        "fsync safe/records.tj-new",
-        "rename safe/records",
-        "fsync safe",
-        "unlink safe/records.tj-log",
-        "write output",
-    ];
-    assert_eq!(steps(&folder, &trace), wanted);
-    let begun = trace.lines().filter(|line| line.contains(".tj-new\", O_WRONLY|O_CREAT|O_EXCL"));
-    let closed = begun.filter(|line| line.contains(", 0600) = ")).count();
-    assert_eq!(closed, 3, "until they have their owner, nobody else can read them");
+    on_two_sides("order", |folder| {
+        let trace = trace(folder, &["put", "0", "new"]);
+        let wanted = [
+            "write safe/records.tj-log.tj-new",
+            "fsync safe/records.tj-log.tj-new",
+            "rename safe/records.tj-log",
+            "fsync safe",
+            "write carrier/pool.tj-new",
+            "fsync carrier/pool.tj-new",
+            "rename carrier/pool",
+            "fsync carrier",
+            "write safe/records.tj-new",
+            "fsync safe/records.tj-new",
+            "rename safe/records",
+            "fsync safe",
+            "unlink safe/records.tj-log",
+            "write output",
+        ];
+        assert_eq!(steps(folder, &trace), wanted);
+        let begun =
+            trace.lines().filter(|line| line.contains(".tj-new\", O_WRONLY|O_CREAT|O_EXCL"));
+        let closed = begun.filter(|line| line.contains(", 0600) = ")).count();
+        assert_eq!(closed, 3, "until they have their owner, nobody else can read them");
+    });
 }
 
 /// Kills a change once it is sure, and before it reaches the pool.
@@ -106,32 +105,48 @@ fn cut(folder: &Folder) {
     assert!(folder.file("safe/records.tj-log").exists());
 }
 
+/// A disk fails before the change is sure, at the log's rename, or after it, at the
+/// pool's: machines are told whether it is made.
+#[test]
+fn a_change_that_fails() {
+    on_two_sides("order_fails", |folder| {
+        let words = [&["put", "0", "new", "--json"][..], &PLACE].concat();
+        for (nth, made) in [(1, false), (2, true)] {
+            let fail = format!("inject=/^rename:error=EIO:when={nth}");
+            let mut command = folder.traced(&["-o", "/dev/null", "-e", &fail], &words);
+            let ended = Ended::from(command.output().unwrap());
+            assert_eq!((ended.status, ended.err.as_str()), (74, ""));
+            let told = "; the change is made, and the next change carries it on\",\"done\":true}\n";
+            assert_eq!(ended.text().ends_with(told), made, "{ended:?}");
+            assert_eq!(ended.text().contains("\"done\":"), made, "{ended:?}");
+            let found = folder.run(&[&["get", "0"][..], &PLACE].concat());
+            assert_eq!(found.text(), if made { "new" } else { "" });
+        }
+    });
+}
+
 /// What is read from a log is sure, too, before it is told.
 #[test]
 fn a_read_from_the_log() {
-    let folder = match prepared("order_read") {
-        Some(folder) => folder,
-        None => return,
-    };
-    cut(&folder);
-    let trace = trace(&folder, &["get", "0"]);
-    assert_eq!(steps(&folder, &trace), ["fsync safe", "write output"]);
+    on_two_sides("order_read", |folder| {
+        cut(folder);
+        let trace = trace(folder, &["get", "0"]);
+        assert_eq!(steps(folder, &trace), ["fsync safe", "write output"]);
+    });
 }
 
 /// All is moved while a log waits: the pool is known by what it held.
 #[test]
 fn a_store_that_moves_with_its_log() {
-    let folder = match prepared("order_moved") {
-        Some(folder) => folder,
-        None => return,
-    };
-    cut(&folder);
-    for side in ["safe", "carrier"] {
-        fs::rename(folder.file(side), folder.file(&format!("new-{side}"))).unwrap();
-    }
-    let place = ["--records", "new-safe/records", "--pool", "new-carrier/pool"];
-    folder.run(&[&["get", "0"][..], &place].concat()).gives("new");
-    folder.run(&[&["create"][..], &place].concat()).gives("1\n");
-    folder.run(&[&["get", "0"][..], &place].concat()).gives("new");
-    assert!(!folder.file("new-safe/records.tj-log").exists());
+    on_two_sides("order_moved", |folder| {
+        cut(folder);
+        for side in ["safe", "carrier"] {
+            fs::rename(folder.file(side), folder.file(&format!("new-{side}"))).unwrap();
+        }
+        let place = ["--records", "new-safe/records", "--pool", "new-carrier/pool"];
+        folder.run(&[&["get", "0"][..], &place].concat()).gives("new");
+        folder.run(&[&["create"][..], &place].concat()).gives("1\n");
+        folder.run(&[&["get", "0"][..], &place].concat()).gives("new");
+        assert!(!folder.file("new-safe/records.tj-log").exists());
+    });
 }

@@ -19,6 +19,13 @@ struct Home {
     program: String,
 }
 
+/// Tries something in a home, if one can be made; the files have this mode.
+fn at_home(name: &str, mode: u32, test: impl Fn(&Home)) {
+    if let Some(home) = home(name, mode) {
+        test(&home);
+    }
+}
+
 fn home(name: &str, mode: u32) -> Option<Home> {
     let path = std::env::temp_dir().join(format!("tjornsaki-{}-{name}", std::process::id()));
     fs::create_dir_all(path.join("home")).unwrap();
@@ -88,113 +95,99 @@ impl Home {
 
 #[test]
 fn root_changes_a_user_s_store() {
-    let home = match home("root", 0o600) {
-        Some(home) => home,
-        None => return,
-    };
-    fs::remove_file(home.file("store.records.tj-lock")).unwrap();
-    home.run(0, &["put", "0"], b"by root").gives("blob 0 has 7 bytes\n");
-    home.is_kept(0o600);
-    home.run(OWNER, &["get", "0"], b"").gives("by root");
-    home.run(OWNER, &["put", "0"], b"by its owner").gives("blob 0 has 12 bytes\n");
-    home.is_kept(0o600);
+    at_home("root", 0o600, |home| {
+        fs::remove_file(home.file("store.records.tj-lock")).unwrap();
+        home.run(0, &["put", "0"], b"by root").gives("blob 0 has 7 bytes\n");
+        home.is_kept(0o600);
+        home.run(OWNER, &["get", "0"], b"").gives("by root");
+        home.run(OWNER, &["put", "0"], b"by its owner").gives("blob 0 has 12 bytes\n");
+        home.is_kept(0o600);
+    });
 }
 
 /// The folder lets nobody take away what others made, and root's command left its
 /// files behind, which the owner cannot even read.
 #[test]
 fn what_root_left_blocks_nobody() {
-    let home = match home("left", 0o640) {
-        Some(home) => home,
-        None => return,
-    };
-    chmod(&home.folder.file("home"), 0o1777);
-    assert!(chown(&home.folder.file("home"), 0, 0));
-    for name in ["store.pool.tj-new", "store.records.tj-new", "store.records.tj-log.tj-new"] {
-        fs::write(home.file(name), b"left").unwrap();
-        chmod(&home.file(name), 0o600);
-    }
-    assert_eq!(home.run(OWNER, &["get", "0"], b"").out, hundred());
-    home.run(OWNER, &["put", "0"], b"still mine").gives("blob 0 has 10 bytes\n");
-    home.run(OWNER, &["get", "0"], b"").gives("still mine");
-    home.is_kept(0o640);
+    at_home("left", 0o640, |home| {
+        chmod(&home.folder.file("home"), 0o1777);
+        assert!(chown(&home.folder.file("home"), 0, 0));
+        for name in ["store.pool.tj-new", "store.records.tj-new", "store.records.tj-log.tj-new"] {
+            fs::write(home.file(name), b"left").unwrap();
+            chmod(&home.file(name), 0o600);
+        }
+        assert_eq!(home.run(OWNER, &["get", "0"], b"").out, hundred());
+        home.run(OWNER, &["put", "0"], b"still mine").gives("blob 0 has 10 bytes\n");
+        home.run(OWNER, &["get", "0"], b"").gives("still mine");
+        home.is_kept(0o640);
+    });
 }
 
 #[test]
 fn a_friend_of_the_group_takes_nothing_away() {
-    let home = match home("friend", 0o660) {
-        Some(home) => home,
-        None => return,
-    };
-    chmod(&home.folder.file("home"), 0o770);
-    home.run(FRIEND, &["put", "0"], b"by a friend").gives("blob 0 has 11 bytes\n");
-    home.is_kept(0o660);
-    home.run(OWNER, &["put", "0"], b"by the owner").gives("blob 0 has 12 bytes\n");
-    home.is_kept(0o660);
+    at_home("friend", 0o660, |home| {
+        chmod(&home.folder.file("home"), 0o770);
+        home.run(FRIEND, &["put", "0"], b"by a friend").gives("blob 0 has 11 bytes\n");
+        home.is_kept(0o660);
+        home.run(OWNER, &["put", "0"], b"by the owner").gives("blob 0 has 12 bytes\n");
+        home.is_kept(0o660);
+    });
 }
 
 /// An output that belongs to somebody stays his.
 #[test]
 fn root_writes_a_user_s_output() {
-    let home = match home("output", 0o600) {
-        Some(home) => home,
-        None => return,
-    };
-    fs::write(home.file("out"), b"before").unwrap();
-    assert!(chown(&home.file("out"), OWNER, OWNER));
-    chmod(&home.file("out"), 0o640);
-    home.run(0, &["get", "0", "out"], b"").gives("100 bytes to out\n");
-    let about = home.file("out").metadata().unwrap();
-    assert_eq!((about.uid(), about.gid(), about.mode() & 0o7777), (OWNER, OWNER, 0o640));
+    at_home("output", 0o600, |home| {
+        fs::write(home.file("out"), b"before").unwrap();
+        assert!(chown(&home.file("out"), OWNER, OWNER));
+        chmod(&home.file("out"), 0o640);
+        home.run(0, &["get", "0", "out"], b"").gives("100 bytes to out\n");
+        let about = home.file("out").metadata().unwrap();
+        assert_eq!((about.uid(), about.gid(), about.mode() & 0o7777), (OWNER, OWNER, 0o640));
+    });
 }
 
 /// The group gets nothing of what it is not the group of.
 #[test]
 fn a_stranger_s_lock() {
-    let home = match home("stranger", 0o666) {
-        Some(home) => home,
-        None => return,
-    };
-    chmod(&home.folder.file("home"), 0o777);
-    fs::remove_file(home.file("store.records.tj-lock")).unwrap();
-    let mut command = home.command(&["get", "0"]);
-    assert!(command.uid(FRIEND).gid(FRIEND).output().unwrap().status.success());
-    let about = home.file("store.records.tj-lock").metadata().unwrap();
-    assert_eq!((about.uid(), about.gid(), about.mode() & 0o7777), (FRIEND, FRIEND, 0o606));
-    home.run(OWNER, &["put", "0"], b"on it goes").gives("blob 0 has 10 bytes\n");
+    at_home("stranger", 0o666, |home| {
+        chmod(&home.folder.file("home"), 0o777);
+        fs::remove_file(home.file("store.records.tj-lock")).unwrap();
+        let mut command = home.command(&["get", "0"]);
+        assert!(command.uid(FRIEND).gid(FRIEND).output().unwrap().status.success());
+        let about = home.file("store.records.tj-lock").metadata().unwrap();
+        assert_eq!((about.uid(), about.gid(), about.mode() & 0o7777), (FRIEND, FRIEND, 0o606));
+        home.run(OWNER, &["put", "0"], b"on it goes").gives("blob 0 has 10 bytes\n");
+    });
 }
 
 /// A reader who may not even open the lock reads what does not change meanwhile.
 #[test]
 fn a_reader_without_the_lock() {
-    let home = match home("reader", 0o644) {
-        Some(home) => home,
-        None => return,
-    };
-    chmod(&home.folder.file("home"), 0o755);
-    chmod(&home.file("store.records.tj-lock"), 0o600);
-    let mut command = home.command(&["get", "0"]);
-    assert_eq!(command.uid(FRIEND).gid(FRIEND).output().unwrap().stdout, hundred());
+    at_home("reader", 0o644, |home| {
+        chmod(&home.folder.file("home"), 0o755);
+        chmod(&home.file("store.records.tj-lock"), 0o600);
+        let mut command = home.command(&["get", "0"]);
+        assert_eq!(command.uid(FRIEND).gid(FRIEND).output().unwrap().stdout, hundred());
+    });
 }
 
 /// Files that may be written in a folder that may not: they are written over.
 #[test]
 fn a_folder_that_may_not_be_written() {
-    let home = match home("folder", 0o600) {
-        Some(home) => home,
-        None => return,
-    };
-    let carrier = home.folder.file("carrier");
-    fs::create_dir(&carrier).unwrap();
-    for name in ["pool", "out"] {
-        fs::copy(home.file("store.pool"), carrier.join(name)).unwrap();
-        assert!(chown(&carrier.join(name), OWNER, OWNER));
-    }
-    let place = ["--pool", "../carrier/pool"];
-    let words = [&["put", "0"][..], &place].concat();
-    home.run(OWNER, &words, b"written over").gives("blob 0 has 12 bytes\n");
-    let words = [&["get", "0", "../carrier/out"][..], &place].concat();
-    home.run(OWNER, &words, b"").gives("12 bytes to ../carrier/out\n");
-    assert_eq!(fs::read(carrier.join("out")).unwrap(), b"written over");
-    assert_eq!(fs::read_dir(carrier).unwrap().count(), 2);
+    at_home("folder", 0o600, |home| {
+        let carrier = home.folder.file("carrier");
+        fs::create_dir(&carrier).unwrap();
+        for name in ["pool", "out"] {
+            fs::copy(home.file("store.pool"), carrier.join(name)).unwrap();
+            assert!(chown(&carrier.join(name), OWNER, OWNER));
+        }
+        let place = ["--pool", "../carrier/pool"];
+        let words = [&["put", "0"][..], &place].concat();
+        home.run(OWNER, &words, b"written over").gives("blob 0 has 12 bytes\n");
+        let words = [&["get", "0", "../carrier/out"][..], &place].concat();
+        home.run(OWNER, &words, b"").gives("12 bytes to ../carrier/out\n");
+        assert_eq!(fs::read(carrier.join("out")).unwrap(), b"written over");
+        assert_eq!(fs::read_dir(carrier).unwrap().count(), 2);
+    });
 }
