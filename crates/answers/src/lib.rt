@@ -26,7 +26,7 @@ pub fn slot_number(named: Named) -> u64
 }
 
 // The numbers of a call that is done.
-fn put_values(answer: &mut [u64; 8], first: u64, second: u64)
+pub fn put_values(answer: &mut [u64; 8], first: u64, second: u64)
     ensures { λ _. ⌜ now (answer .exit) ≡ valueNumbers first second ⌝ }
 {
     *answer = [0, NO_SLOT, first, second, 0, 0, 0, 0];

@@ -1,7 +1,7 @@
 // Runs of bytes: put into a lent part, or looked at for zeros or for the first two.
 use crate::number;
 ghost use mathlib.Core.Path.{_≡_};
-ghost use Prim.Native.Nat.{_+_, _-_, _≤_};
+ghost use Prim.Native.Nat.{_+_, _-_, _%_, _≤_, min};
 ghost use mathlib.Core.List.{[], _∷_};
 ghost use lib.ListN.{length, take, replicate};
 ghost use Rattle.meaning.specs.Lists.{part, pasted, sameList, zeros};
@@ -45,6 +45,14 @@ pub fn clear_from(dst: &mut [u8], at: usize)
 {
     let end = dst.len();
     clear(&mut dst[at..end]);
+}
+
+// How many bytes may be copied at once from a place on: to the end of the payload that it lies in, and no more than are left.
+pub fn stretch_from(leaf: usize, place: usize, left: usize) -> usize
+    requires { ⌜ 1 ≤ leaf ⌝ }
+    ensures { λ r. ⌜ r ≡ min (leaf - place % leaf) left ⌝ }
+{
+    number::least(leaf - place % leaf, left)
 }
 
 // Whether the first two bytes are these.

@@ -3,20 +3,11 @@ use base_bytes::runs;
 use base_slot::slot;
 use meaning::Edition;
 ghost use mathlib.Core.Path.{_≡_};
-ghost use Prim.Native.Nat.{_-_, _%_, _≤_, _<_, min};
+ghost use Prim.Native.Nat.{_≤_, _<_};
 ghost use lib.ListN.{length, take};
 ghost use Rattle.meaning.specs.Lists.{part};
 ghost use Rattle.meaning.specs.Edition.{Proper};
 ghost use Rattle.call_read.specs.copy.{spelt, Reading};
-
-// How many bytes may be copied at once from a place on: to the end of its payload, and no more than are left.
-fn stretch_from(leaf: usize, place: usize, left: usize) -> usize
-    requires { ⌜ 1 ≤ leaf ⌝ }
-    ensures { λ r. ⌜ r ≡ min (leaf - place % leaf) left ⌝ }
-{
-    let room = leaf - place % leaf;
-    if room < left { room } else { left }
-}
 
 // Copies one stretch behind the first pos bytes of out, and answers how many are there then.
 fn copy_stretch(
@@ -36,7 +27,7 @@ fn copy_stretch(
     ensures { λ r. ⌜ take r (now (out .exit)) ≡ part offset r (spelt e (now (pool .entry)) (take k (now (row .entry)))) ⌝ }
 {
     let place = offset + pos;
-    let m = stretch_from(e.leaf, place, out.len() - pos);
+    let m = runs::stretch_from(e.leaf, place, out.len() - pos);
     let leaf = place / e.leaf;
     let b = slot::block_of(e, pool, check_blob::row::slot_at(row, leaf));
     let end = pos + m;

@@ -9,7 +9,7 @@ use Rattle.meaning.specs.declared.Edition.{Edition}
 use Rattle.meaning.specs.Lists.{pasted, bytes, padded}
 use Rattle.meaning.specs.Edition.{Proper}
 use Rattle.meaning.specs.Bytes.{header, blockBytes}
-use Rattle.laws.proofs.Parts.{pasted-length}
+use Rattle.laws.proofs.Parts.{pasted-length, drop-pasted}
 use Rattle.laws.proofs.Checks.{two-bytes}
 use Rattle.laws.proofs.Codec.{header-length, padded-fits}
 
@@ -21,6 +21,18 @@ take-pasted-to a new l h =
     let t : length (take a l) ≡ a = length-take-le a l h in
     let u : length (take a l ++ new) ≡ a + length new = simp (length-append, t) in
     ap (take (a + length new)) (sym s) ∙ take-at (take a l ++ new) (drop (a + length new) l) (a + length new) u
+
+-- two lists pasted one behind the other
+pub pasted-more : (a : ℕ) (x y l : List ℕ) → a + (length x + length y) ≤ length l → pasted (a + length x) y (pasted a x l) ≡ pasted a (x ++ y) l
+unfolding pasted
+pasted-more a x y l h =
+    let front : take (a + length x) (pasted a x l) ≡ take a l ++ x = take-pasted-to a x l (omega arith) in
+    let rest : drop (a + length x + length y) (pasted a x l) ≡ drop (a + length x + length y) l =
+    drop-pasted a x l (omega arith) (a + length x + length y) (omega arith) in
+    let n : a + length (x ++ y) ≡ a + length x + length y = simp length-append (omega arith) in
+    ap₂ (λ (f : List ℕ) (r : List ℕ). f ++ (y ++ r)) front rest ∙ append-assoc (take a l) x (y ++ drop (a + length x + length y) l)
+    ∙ ap (λ (r : List ℕ). take a l ++ r) (sym (append-assoc x y (drop (a + length x + length y) l)))
+    ∙ ap (λ (k : ℕ). take a l ++ ((x ++ y) ++ drop k l)) (sym n)
 
 -- what is pasted up to the end
 pub pasted-end : {A : Type 0} (a : ℕ) (new l : List A) → a + length new ≡ length l → pasted a new l ≡ take a l ++ new

@@ -2,11 +2,19 @@
 -- so laws that ask for no more than `Proper` rest on nothing that only the first edition has.
 use mathlib.Core.Path.{refl}
 use mathlib.Core.List.{[], _∷_}
-use Prim.Native.Nat.{ℕ, zero, suc, _<_}
+use Prim.Native.Nat.{ℕ, zero, suc, _%_, _<_}
+use native.Mathlib.Nat.{mod-lt}
 use native.Mathlib.Omega.{arith}
 use lib.ListN.{getD}
 use Rattle.meaning.specs.declared.Edition.{Edition}
 use Rattle.meaning.specs.Edition.{one, Proper}
+
+-- a place within its payload, and within its row
+pub within-below : (e : Edition) → Proper e → (place : ℕ) → place % e .leaf < e .leaf
+within-below e p place = mod-lt place (omega (arith, p .some))
+
+pub digit-below : (e : Edition) → Proper e → (j : ℕ) → j % e .fan < e .fan
+digit-below e p j = mod-lt j (omega (arith, p .two))
 
 pub one-proper : Proper one
 unfolding one

@@ -19,4 +19,7 @@ pub mod OneToOne
 pub mod Walked
 pub mod Marks
 pub mod Positions
+pub mod Digits
+pub mod Descent
+pub mod Pieces
 pub mod Editions

@@ -1,16 +1,17 @@
 -- Ranges of numbers, what a loop over one still has before it, and what a test keeps of a list.
-use mathlib.Core.Path.{_≡_, refl, ap, _∙_, sym}
+use mathlib.Core.Path.{_≡_, refl, ap, ap₂, _∙_, sym}
 use mathlib.Core.Bool.{Bool, true}
-use mathlib.Core.List.{List, [], _∷_, _++_, List·Memᴰ, List·Memᴰ·head, List·Memᴰ·tail}
+use mathlib.Core.List.{List, [], _∷_, _++_, map, List·Memᴰ, List·Memᴰ·head, List·Memᴰ·tail}
 use Prim.Native.Nat.{ℕ, zero, suc, _+_, _-_, _≤_, _<_}
 use native.Mathlib.Nat.{add-zero, add-suc, zero-add, suc-add}
 use native.Mathlib.Numerals.{add-one}
 use native.Mathlib.Omega.{arith}
 use borrow.Author.Tests.{eqb-true, eqb-false}
 use lib.Dec.{eqb}
-use lib.ListN.{length}
+use lib.ListN.{length, getD, drop}
+use lib.Seq.{drop-cons}
 use Rattle.meaning.specs.declared.Edition.{Edition}
-use Rattle.meaning.specs.Lists.{pick, range, filter}
+use Rattle.meaning.specs.Lists.{pick, part, range, filter}
 use Rattle.meaning.specs.Bytes.{usableSlot}
 use Rattle.meaning.specs.Calls.{usable}
 use Rattle.laws.proofs.Inversions.{by-test}
@@ -45,7 +46,20 @@ unfolding range
 range-append from zero n = rw (zero-add, add-zero)
 range-append from (suc k) n = rw (suc-add k n, add-suc from k) (ap (λ l. from ∷ l) (range-append (suc from) k n ∙ rw suc-add))
 
--- walks from slots of one pool
+-- it is as long as was asked
+pub range-length : (from n : ℕ) → length (range from n) ≡ n
+unfolding range
+range-length from zero = refl
+range-length from (suc n) = ap suc (range-length (suc from) n)
+
+-- what is told of a list one by one, from skipped elements on, is a part of it
+pub one-by-one : (f : ℕ → ℕ) (skipped : ℕ) (l : List ℕ) → ((i : ℕ) → skipped + i < length l → f i ≡ getD l (skipped + i) 0)
+    → (at n : ℕ) → skipped + at + n ≤ length l → map f (range at n) ≡ part (skipped + at) n l
+unfolding part range
+one-by-one f skipped l same at zero h = refl
+one-by-one f skipped l same at (suc n) h =
+    let d : drop (skipped + at) l ≡ getD l (skipped + at) 0 ∷ drop (skipped + suc at) l = rw add-suc (drop-cons l (skipped + at) 0 (omega arith)) in
+    rw d (ap₂ _∷_ (same at (omega arith)) (one-by-one f skipped l same (suc at) n (omega arith)))
 
 -- what a loop up to n has before it from i on: at first all
 pub left-all : (n : ℕ) → range 0 (n - 0) ≡ range 0 n

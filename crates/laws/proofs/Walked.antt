@@ -7,7 +7,7 @@ use mathlib.Core.Bool.{Bool, true, false}
 use mathlib.Core.List.{List, [], _∷_, _++_, map, List·Memᴰ, List·Memᴰ·not-nil, List·Memᴰ·head, List·Memᴰ·tail}
 use mathlib.Core.List.{List·Memᴰ·append-cases, List·Memᴰ·eq-of-singleton}
 use Prim.Native.Nat.{ℕ, zero, suc, _+_, _*_, _≤_, _<_, min}
-use native.Mathlib.Nat.{mul-le-mul-left}
+use native.Mathlib.Nat.{mul-le-mul-left, mul-div-cancel-left}
 use native.Mathlib.Omega.{arith}
 use lib.ListN.{length, getD, set, length-map, List·getD-map}
 use Rattle.meaning.specs.declared.Edition.{Edition}
@@ -20,6 +20,7 @@ use Rattle.meaning.specs.Bytes.{block, heightOf, countOf, dataOf, childrenOf, r
 use Rattle.meaning.specs.Tree.{Tree, Blob, leaves, leavesOf}
 use Rattle.meaning.specs.Shape.{mostCount, InRow, ShapedTree, Shaped}
 use Rattle.meaning.specs.Walk.{used, isRoot, linkCheck, Found, fine, isEmpty, oneVisit, visitRow, visit, fromRoot}
+use Rattle.meaning.specs.Calls.{slotsIn}
 use Rattle.laws.proofs.Numbers.{part-length}
 use Rattle.laws.proofs.Checks.{used-fits}
 use Rattle.laws.proofs.Codec.{itemsOf, item-count}
@@ -144,6 +145,13 @@ pub record LeafBlock (e : Edition) (N : ℕ) (P : List ℕ) (s : ℕ) : Type 0 w
   pub most : length (dataOf (block e P s)) ≤ e .leaf
   pub room : 16 + countOf (block e P s) ≤ length (block e P s)
 
+-- a store's pool has as many slots as its length says
+pub slots-in : (e : Edition) → Proper e → (N : ℕ) (P : List ℕ) → length P ≡ e .size * N → slotsIn e P ≡ N
+unfolding slotsIn
+slots-in e p N P whole =
+    let some : 0 < e .size = omega (arith, p .fits) in
+    rw whole (mul-div-cancel-left N some)
+
 -- a pool of N blocks
 module _ (e : Edition) (p : Proper e) (N : ℕ) (P : List ℕ) (whole : length P ≡ e .size * N) where
   -- a block of the pool is as long as a block is
@@ -193,6 +201,13 @@ module _ (e : Edition) (p : Proper e) (N : ℕ) (P R : List ℕ) (whole : length
       (childrenOf (block e P s)) (set seen s 1) (f .walked) in
       let n = row-length e p N P whole (suc h) (isRoot role) edge (recorded R s) s within (f .sound) in
       rw (← f .tree) (omega (arith, r .0, f .sound .least), omega (arith, r .0, f .sound .most), r .1)
+
+  -- so has each tree of a row that was visited
+  pub row-shaped : (h q : ℕ) (edge : Bool) (cs seen : List ℕ) {ts : List (Tree h)} {seen′ : List ℕ}
+      → visitRow e N P R (visit e N P R h) q edge cs seen ≡ fine ts seen′ → (length ts ≡ length cs) × InRow (ShapedTree e h false) edge ts
+  unfolding isRoot
+  row-shaped h q edge cs seen v =
+      rows-shaped h (λ q edge seen c t seen′ o. visit-shaped h (Child q) edge seen c o (λ z. never (sym z))) q edge cs seen v
 
   -- and so has a blob
   pub walk-shaped : (seen : List ℕ) (r : ℕ) {b : Blob} {seen′ : List ℕ} → fromRoot e N P R seen r ≡ fine b seen′ → r < N → Shaped e b

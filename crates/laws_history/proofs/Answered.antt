@@ -19,7 +19,7 @@ use Rattle.meaning.specs.Calls.{Outcome, refused, refuseIf, afterCheck, slotsIn
 use Rattle.laws.proofs.Inversions.{by-test, same-list}
 use Rattle.laws.proofs.Every.{Every, every-right, range-every}
 use Rattle.laws_history.proofs.Local.{unlike, Same, otherFlaw, Told, firstOther, other-none, other-first, other-number, check-other}
-use Rattle.laws_history.proofs.CallSteps.{slots-in}
+use Rattle.laws.proofs.Walked.{slots-in}
 use Rattle.laws_history.proofs.Started.{Sized, so-sized, other-sized}
 
 -- the first of these slots that is not as it was

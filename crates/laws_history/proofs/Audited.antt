@@ -22,7 +22,7 @@ use Rattle.laws.proofs.Codec.{state-known}
 use Rattle.laws.proofs.Walked.{block-length}
 use Rattle.laws_history.proofs.Reached.{pool-reach}
 use Rattle.laws_history.proofs.Local.{Same, Told}
-use Rattle.laws_history.proofs.CallSteps.{slots-in}
+use Rattle.laws.proofs.Walked.{slots-in}
 use Rattle.laws_history.proofs.Started.{Sized, other-sized}
 use Rattle.laws_history.proofs.Answered.{opened-passes}
 

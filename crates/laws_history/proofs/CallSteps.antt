@@ -5,7 +5,6 @@ use mathlib.Core.Bool.{Bool, true, false, not}
 use mathlib.Core.List.{List, [], _∷_, map}
 use Prim.Native.Nat.{ℕ, _*_, _^_, _≤_, _<_}
 use native.Mathlib.Omega.{arith}
-use native.Mathlib.Nat.{mul-div-cancel-left}
 use borrow.Author.Tests.{ltb-true, not-false}
 use lib.Dec.{ltb, eqb}
 use lib.ListN.{length}
@@ -27,6 +26,7 @@ use Rattle.meaning.specs.Calls.{lengthCall, readCall, showCall, auditCall, crea
 use Rattle.meaning.specs.Run as run
 use Rattle.meaning.specs.Run.{Call, perform}
 use Rattle.laws.proofs.Inversions.{by-test, both-true}
+use Rattle.laws.proofs.Walked.{slots-in}
 use Rattle.laws.proofs.Every.{Every, every-weaker}
 use Rattle.laws_history.proofs.Reached.{Live, pool-reach}
 use Rattle.laws_history.proofs.Stepped.{same, Next, Settled, Ready, turned-next, turned-settled}
@@ -43,13 +43,6 @@ each-all : (p : ℕ → Bool) (xs : List ℕ) → all p xs ≡ true → Every (�
 unfolding all
 each-all p [] h = tt
 each-all p (x ∷ xs) h = let t = both-true (p x) (all p xs) h in (t .0, each-all p xs (t .1))
-
--- a store's pool has as many slots as its length says
-pub slots-in : (e : Edition) → Proper e → (N : ℕ) (P : List ℕ) → length P ≡ e .size * N → slotsIn e P ≡ N
-unfolding slotsIn
-slots-in e p N P whole =
-    let some : 0 < e .size = omega (arith, p .fits) in
-    rw whole (mul-div-cancel-left N some)
 
 module _ (e : Edition) (N : ℕ) (small : N ≤ 2 ^ 32) (S : Store) (is : Settled e N S) where
   abbrev P : List ℕ

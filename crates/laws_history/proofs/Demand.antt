@@ -32,7 +32,7 @@ use Rattle.laws_history.proofs.Local.{Same, Told}
 use Rattle.laws_history.proofs.Reached.{Live, from-reach}
 use Rattle.laws_history.proofs.Fewer.{pool-found}
 use Rattle.laws_history.proofs.Stepped.{Settled}
-use Rattle.laws_history.proofs.CallSteps.{slots-in}
+use Rattle.laws.proofs.Walked.{slots-in}
 use Rattle.laws_history.proofs.Started.{Sized, FromRun, run-settled, run-sized, run-slots, run-blank, run-told}
 use Rattle.laws_history.proofs.Answered.{Exact, reading-checks, reading-exact}
 use Rattle.laws_history.proofs.Shown.{shown-same}

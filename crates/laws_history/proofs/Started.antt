@@ -23,7 +23,7 @@ use Rattle.laws.proofs.Codec.{record-kept, state-of, recorded-of, blank-flaw}
 use Rattle.laws.proofs.Inversions.{by-test, both-true, true-both, same-list}
 use Rattle.laws_history.proofs.Local.{unlike, Told}
 use Rattle.laws_history.proofs.Stepped.{Settled}
-use Rattle.laws_history.proofs.CallSteps.{slots-in}
+use Rattle.laws.proofs.Walked.{slots-in}
 use Rattle.laws_history.proofs.History.{stateIn, versionIn, blockIn, Kept, free, Misplaced, misplaced-some}
 use Rattle.laws_history.proofs.History.{settled-at, free-blank, misplaced}
 

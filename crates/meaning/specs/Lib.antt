@@ -1,4 +1,4 @@
--- Document 01 as definitions, in its order; docs/PROMISES.md has the sentence of each.
+-- Document 01 as definitions, in its order, and the requests of document 02 that have landed; docs/PROMISES.md has the sentence of each.
 pub mod Lists
 pub mod Edition
 pub mod Bytes
@@ -11,4 +11,5 @@ pub mod Resize
 pub mod Calls
 pub mod Answers
 pub mod Run
+pub mod Head
 pub mod Cases

@@ -9,4 +9,6 @@ pub mod Done
 pub mod Two
 pub mod Three
 pub mod Demands
+pub mod HeadReads
+pub mod Heads
 pub mod Example

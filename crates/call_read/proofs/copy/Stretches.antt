@@ -2,7 +2,6 @@
 use mathlib.Core.Path.{_≡_, refl, ap, _∙_, sym}
 use mathlib.Core.List.{List, _++_}
 use Prim.Native.Nat.{ℕ, _+_, _-_, _*_, _/_, _%_, _≤_, _<_, min}
-use native.Mathlib.Nat.{mod-lt}
 use native.Mathlib.Omega.{arith}
 use borrow.Rule.Slice.PartMut.{putMid}
 use lib.ListN.{length, getD, take, drop}
@@ -16,12 +15,9 @@ use Rattle.meaning.specs.declared.Edition.{Edition}
 use Rattle.laws.proofs.Numbers.{part-split, part-length}
 use Rattle.laws.proofs.Parts.{copy-back, lent-length}
 use Rattle.laws.proofs.Building.{take-pasted-to}
+use Rattle.laws.proofs.Editions.{within-below}
 use Rattle.check_blob.proofs.visit.VisitAsDefined.{slot-fits}
 use Rattle.call_read.specs.copy.{spelt, Stretch, Reading}
-
--- a place within its payload
-pub within-below : (e : Edition) → Proper e → (p : ℕ) → p % e .leaf < e .leaf
-within-below e p q = mod-lt q (omega (arith, p .some))
 
 -- one stretch: m bytes from pos on, which lie in the block of slot s
 module _ (e : Edition) (p : Proper e) (n : ℕ) (P row : List ℕ) (k offset pos : ℕ) (out : List ℕ) (g : Reading e n P row k offset (length out))

@@ -19,18 +19,6 @@ spelled-append (x ∷ a) b =
     ap (λ (l : List ℕ). bytes 4 x ++ l) (spelled-append a b)
     ∙ sym (append-assoc (bytes 4 x) (joined (map (bytes 4) a)) (joined (map (bytes 4) b)))
 
--- two lists pasted one behind the other
-pub pasted-more : (a : ℕ) (x y l : List ℕ) → a + (length x + length y) ≤ length l → pasted (a + length x) y (pasted a x l) ≡ pasted a (x ++ y) l
-unfolding pasted
-pasted-more a x y l h =
-    let front : take (a + length x) (pasted a x l) ≡ take a l ++ x = take-pasted-to a x l (omega arith) in
-    let rest : drop (a + length x + length y) (pasted a x l) ≡ drop (a + length x + length y) l =
-    drop-pasted a x l (omega arith) (a + length x + length y) (omega arith) in
-    let n : a + length (x ++ y) ≡ a + length x + length y = simp length-append (omega arith) in
-    ap₂ (λ (f : List ℕ) (r : List ℕ). f ++ (y ++ r)) front rest ∙ append-assoc (take a l) x (y ++ drop (a + length x + length y) l)
-    ∙ ap (λ (r : List ℕ). take a l ++ r) (sym (append-assoc x y (drop (a + length x + length y) l)))
-    ∙ ap (λ (k : ℕ). take a l ++ ((x ++ y) ++ drop k l)) (sym n)
-
 -- the rest of a list of zeros
 drop-zeros : (j k : ℕ) → drop {A = ℕ} j (replicate k 0) ≡ replicate (k - j) 0
 drop-zeros zero k = let z : k - 0 ≡ k = omega arith in rw z

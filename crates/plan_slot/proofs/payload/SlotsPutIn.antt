@@ -11,7 +11,8 @@ use Rattle.laws.proofs.Parts.{pasted-none}
 use Rattle.laws.proofs.Codec.{fours-length}
 use Rattle.laws_resize.specs.growth.Forms.{past, every}
 use Rattle.laws_resize.proofs.growth.FormsByCases.{every-length}
-use Rattle.plan_slot.proofs.payload.Rows.{spelled-append, pasted-more}
+use Rattle.laws.proofs.Building.{pasted-more}
+use Rattle.plan_slot.proofs.payload.Rows.{spelled-append}
 
 -- slots taken at equal steps: one more, at the end
 pub every-more : (free : List ℕ) (step c k : ℕ) → every free step (suc c) k ≡ every free step c k ++ (getD free (k + c * step) past ∷ [])
