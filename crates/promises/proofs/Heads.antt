@@ -14,7 +14,8 @@ use Rattle.meaning.specs.Lists.{joined}
 use Rattle.meaning.specs.Edition as edition
 use Rattle.meaning.specs.Edition.{Proper}
 use Rattle.meaning.specs.Bytes.{state}
-use Rattle.meaning.specs.Tree.{Blob}
+use Rattle.meaning.specs.Tree.{Blob, lengthOf}
+use Rattle.meaning.specs.Refusals.{at}
 use Rattle.meaning.specs.Walk.{fine}
 use Rattle.meaning.specs.Change.{Change, Store}
 use Rattle.meaning.specs.Calls.{refused, done, sized, lengthCall, readCall}
@@ -23,11 +24,13 @@ use Rattle.meaning.specs.Run.{Call, tellLength, read, says, run}
 use Rattle.meaning.specs.Head.{headAt, headOf, openHead, heightAt, piece, handed, handedOut, moved, pieces, sum}
 use Rattle.laws.proofs.Editions.{one-proper}
 use Rattle.laws.proofs.Pieces.{piece-none, pieces-are, pieces-last}
-use Rattle.laws_sound.proofs.again.Outcomes.{done-same}
+use Rattle.laws_history.proofs.Demand.{root-within}
+use Rattle.laws_sound.proofs.again.Outcomes.{sized-lengths}
 use Rattle.promises.proofs.Said.{saidBy, oneNumber, allBytes, said-refused, said-done, says-length, says-read}
+use Rattle.promises.proofs.Stores.{moment-passes, gives-length}
 use Rattle.promises.proofs.Three.{reading-told}
 use Rattle.promises.proofs.HeadReads.{piece-read}
-use Rattle.promises.specs.Demands.{AsItWas, reader, Told, Filled}
+use Rattle.promises.specs.Demands.{slotsAt, blobAt, AsItWas, FirstOther, reader, Told, Filled}
 use Rattle.promises.specs.Heads.{opens, handsOut, SameHead, ReadingHead}
 
 -- an opening that says a length is done with it
@@ -84,3 +87,73 @@ module _ (e : Edition) (p : Proper e) (S : Store) (r : ℕ) where
   nothing q h sizes =
       let z : min (sum sizes) (0 - 0) ≡ 0 = omega arith in
       ap (λ h. joined (pieces e P h sizes)) (refused-head e S r q h) ∙ pieces-are e P r 0 sizes 0 ∙ rw z (piece-none e P high r 0)
+
+-- Two stores whose length and reads of a root say the same: the head opens and hands out the same. Each piece is what one read says, piece by piece.
+module _ (e : Edition) (p : Proper e) (S S* : Store) (r n : ℕ) (opening : opens e S r ≡ yields (n ∷ [])) (opening* : opens e S* r ≡ yields (n ∷ []))
+    (alike : (at m : ℕ) → says e S* (read r at m) ≡ says e S (read r at m)) where
+  same-piece : (at m : ℕ) → at + m ≤ n → piece e (S* .pool) (heightAt e (S* .pool) r) r at m ≡ piece e (S .pool) (heightAt e (S .pool) r) r at m
+  same-piece at m l =
+      let q : yields (piece e (S* .pool) (heightAt e (S* .pool) r) r at m) ≡ yields (piece e (S .pool) (heightAt e (S .pool) r) r at m) =
+      sym (piece-said e p S* r n opening* at m l) ∙ alike at m ∙ piece-said e p S r n opening at m l in
+      cc
+
+  within : (at k : ℕ) → at ≤ n → at + handed n at k ≤ n
+  unfolding handed
+  within at k l = omega arith
+
+  same-pieces : (sizes : List ℕ) (at : ℕ) → at ≤ n → pieces e (S* .pool) (headAt r at n) sizes ≡ pieces e (S .pool) (headAt r at n) sizes
+  unfolding pieces handedOut moved
+  same-pieces [] at l = refl
+  same-pieces (k ∷ ks) at l =
+      ap₂ _∷_ (same-piece at (handed n at k) (within at k l)) (same-pieces ks (at + handed n at k) (within at k l))
+
+  same-handed : (sizes : List ℕ) → handsOut e S* r sizes ≡ handsOut e S r sizes
+  same-handed sizes =
+      ap (λ h. pieces e (S* .pool) h sizes) (is e p S* r n opening*) ∙ same-pieces sizes 0 (omega arith)
+      ∙ sym (ap (λ h. pieces e (S .pool) h sizes) (is e p S r n opening))
+
+-- demand three's two sentences, from what length and read tell
+module _ (e : Edition) (p : Proper e) (S : Store) (P* : List ℕ) (r : ℕ) (b : Blob) where
+  head-told : (length-told : Told e S P* b (tellLength r)) → ((at m : ℕ) → Told e S P* b (read r at m)) → (n : ℕ) → opens e S r ≡ yields (n ∷ [])
+      → (sizes : List ℕ) → SameHead e S (reader P* S) r sizes ↔ AsItWas e (S .pool) P* b
+  head-told length-told read-told n opening sizes = (
+    (λ h. length-told .answers .0 (h .0)),
+    (λ was.
+        let q = length-told .answers .1 was in
+        (q, same-handed e p S (reader P* S) r n opening (q ∙ opening) (λ at m. read-told at m .answers .1 was) sizes)),
+  )
+
+  head-refused : Told e S P* b (tellLength r) → (AsItWas e (S .pool) P* b → ⊥) → (n s : ℕ) × FirstOther e (S .pool) P* b s × (4 ≤ n) × (n ≤ 7)
+      × (opens e (reader P* S) r ≡ refuses (at n s)) × ((sizes : List ℕ) → joined (handsOut e (reader P* S) r sizes) ≡ [])
+  head-refused length-told other =
+      let (n, s, first, low, most, q) = length-told .refuses other in
+      (n, s, first, low, most, q, nothing e p (reader P* S) r (at n s) q)
+
+module _ (e : Edition) (p : Proper e) where
+  told : (S₀ : Store) → sized e (S₀ .pool) (S₀ .records) ≡ true → (calls : List Call) (S : Store) → List·Memᴰ S (run e S₀ calls)
+      → (P* : List ℕ) → length P* ≡ length (S .pool) → Filled e S₀ calls P* → (r : ℕ) → state (S .records) r ≡ 2
+      → (b : Blob) × (seen : List ℕ) × (blobAt e S r ≡ fine b seen)
+      × ((sizes : List ℕ) → SameHead e S (reader P* S) r sizes ↔ AsItWas e (S .pool) P* b)
+      × ((AsItWas e (S .pool) P* b → ⊥) → (n s : ℕ) × FirstOther e (S .pool) P* b s × (4 ≤ n) × (n ≤ 7)
+      × (opens e (reader P* S) r ≡ refuses (at n s)) × ((sizes : List ℕ) → joined (handsOut e (reader P* S) r sizes) ≡ []))
+  told S₀ good calls S moment P* size fill r root =
+      let (b, seen, found, tells) = reading-told e p S₀ good calls S moment P* size fill r root in
+      let of-length = tells 0 0 0 (tellLength r) (List·Memᴰ·head refl) in
+      let of-read : (at m : ℕ) → Told e S P* b (read r at m) = λ at m. tells at m 0 (read r at m) (List·Memᴰ·tail (List·Memᴰ·head refl)) in
+      let (bs, (o, passed)) = moment-passes e p S₀ good calls S moment in
+      let low = root-within (S .records) (slotsAt e S) r (sized-lengths e (S .pool) (S .records) (o .lengths) .lines) root in
+      let opening : opens e S r ≡ yields (lengthOf b ∷ []) = gives-length e p S r b (o, (low, root), (seen, found)) in
+      (b, seen, found, head-told e p S P* r b of-length of-read (lengthOf b) opening, head-refused e p S P* r b of-length)
+
+-- the promise, of every proper edition
+pub reading-head : (e : Edition) → Proper e → ReadingHead e
+reading-head e p = record {
+  next = λ S r n opening. next e p S r n opening;
+  all-joined = λ S r n opening. joined-said e p S r n opening;
+  nothing = λ S r. nothing e p S r;
+  told = told e p;
+}
+
+-- and of document 01's
+pub reading-head-of-one : ReadingHead edition.one
+reading-head-of-one = reading-head edition.one one-proper
