@@ -4,8 +4,8 @@ use mathlib.Core.Path.{_≡_, refl, ap, _∙_, sym, subst}
 use mathlib.Core.Bool.{Bool, true, false}
 use mathlib.Core.List.{List, [], _∷_, _++_, map}
 use Prim.Native.Nat.{ℕ, zero, suc, _+_, _-_, _*_, _/_, _%_, _^_, _≤_, _<_, min}
-use native.Mathlib.Nat.{add-zero, zero-add, suc-add, add-assoc, mul-add, mul-assoc, mul-comm, mul-one, mul-le-mul-left, mod-lt, div-add-mod, mul-add-div}
-use native.Mathlib.Nat.{mul-add-mod-self-left, div-eq-of-lt, mod-eq-of-lt, div-one, div-lt-iff-lt-mul, pow-zero, pow-succ', one-le-pow}
+use native.Mathlib.Nat.{zero-add, suc-add, mul-comm, mul-one}
+use native.Mathlib.Nat.{div-eq-of-lt, mod-eq-of-lt, div-one, div-lt-iff-lt-mul, pow-zero, pow-succ', one-le-pow}
 use native.Mathlib.Omega.{arith}
 use borrow.Author.Tests.{ltb-true, ltb-false, lt-ltb, le-ltb}
 use lib.Dec.{ltb}

@@ -1,5 +1,5 @@
 -- Document 01's numbers to try that are marked P, its whole one-slot example, a resize worked out slot by slot, and an example of each refusal; then
--- child links and the last version. One statement over one list of cases, which computes. A case is data, read by the function `right` alone.
+-- child links, the last version, and reading heads. One statement over one list of cases, which computes. A case is data, read by the function `right` alone.
 use mathlib.Core.Path.{_≡_, refl}
 use mathlib.Core.Bool.{Bool, true, false}
 use mathlib.Core.List.{List, [], _∷_, _++_, map}
@@ -19,6 +19,7 @@ use Rattle.meaning.specs.Calls.{refuseIf, afterCheck, slotsIn, sized, re
 use Rattle.meaning.specs.Answers.{Said, yields, refuses, lengthAnswer, auditAnswer, createAnswer, changeAnswer, finishAnswer, readOut}
 use Rattle.meaning.specs.Answers.{lengthSaid, auditSaid, createdSaid, changedSaid, finishedSaid, saidWith}
 use Rattle.meaning.specs.Run.{Call, create, audit, write, resize, tellLength, read, says, perform}
+use Rattle.meaning.specs.Head.{Head, headAt, headOf, openHead, blockAt, childAt, below, heightAt, byteAt, piece, handed, handedOut, moved, pieces}
 use Rattle.meaning.specs.declared.Named.{Named}
 use Rattle.meaning.specs.declared.Named.the-variants.{Nowhere, Slot}
 
@@ -47,6 +48,8 @@ pub data Case : Type 0 where
   refusal : Store → Call → ℕ → Named → Case
   -- on this store, a call and the values that it answers
   result : Store → Call → List ℕ → Case
+  -- over this pool a head, the sizes asked of it one after the other, and the pieces that it hands out
+  asked : (pool : List ℕ) → Head → (sizes : List ℕ) → (handedOut : List (List ℕ)) → Case
 
 -- the block and the record of which a fact speaks
 unfoldable pub blockIn : Fact → List ℕ
@@ -86,11 +89,18 @@ played S (x ∷ xs) =
     let S′ = perform one S (x .call) in
     both (sameSaid (says one S (x .call)) (yields (x .answer))) (both (all (true-of S′) (x .facts)) (played S′ xs))
 
+unfoldable pub samePieces : List (List ℕ) → List (List ℕ) → Bool
+samePieces [] [] = true
+samePieces [] (q ∷ qs) = false
+samePieces (p ∷ ps) [] = false
+samePieces (p ∷ ps) (q ∷ qs) = both (sameList p q) (samePieces ps qs)
+
 unfoldable pub right : Case → Bool
 right (blocks len n) = eqb (total (one .fan) (leavesFor (one .leaf) len)) n
 right (script N steps) = played (wiped one N) steps
 right (refusal S call n s) = sameSaid (says one S call) (refuses (refusalOf n s))
 right (result S call values) = sameSaid (says one S call) (yields values)
+right (asked P h sizes ps) = samePieces (pieces one P h sizes) ps
 
 -- the cases marked P, and the blob created in a wiped one-slot pool
 unfoldable pub cases : List Case
@@ -272,6 +282,39 @@ worn =
     ∷ result (versions 1 (lastVersion - 1)) create (1 ∷ [])
     ∷ []
 
-pub cases-hold : all right (joined (cases ∷ worked ∷ refusals ∷ links ∷ worn ∷ [])) ≡ true
-unfolding cases worked twelve refusals links worn blockIn lineIn holding full twice sharing versions right played sameSaid true-of holds empty two beside one pick both part pasted joined range filter all ofLast mapLast only sameList zeros number bytes padded fours sameCell itemBytes header blockBytes encoded block heightOf countOf ownSlot versionOf dataOf childrenOf recordWith recordOf recordAt stateOf recordedOf state recorded soundRecord lastVersion usableSlot slotOf atSlot content leaves cells rootOf contentOf leavesOf cellsOf slotsOf lengthOf held up leavesFor totalWithin total leastCount mostCount refusalOf at nowhere must first flaw used formed blockCheck isRoot linkCheck andThen passing isEmpty oneVisit visitRow visit fromRoot roots closingCheck closing poolCheck put puts changedBy freed renewed changed changes lowest chain onLast roomy hang raised addLeaf addLeaves lastLeaf share shares lastBytes longer keepRow keep lower shorter resized refuseIf afterCheck slotsIn sized refuseBadRecord opened withBlob usable rooted changing refuseWorn refuseFull become createOn createIn newBlocks resizeOn resizeIn createCall resizeCall after freeRecords wiped says createdSaid createAnswer auditSaid auditAnswer changedSaid changeAnswer lengthSaid lengthAnswer saidWith finishedSaid finishAnswer readOut perform reading blobCheck lengthOn lengthIn refusePast readOn readIn live auditOn auditIn writeOn writeIn lengthCall readCall auditCall writeCall along refill refilled slotNumber
+-- a blob of 578 bytes, root 0: slots 1 and 2 are its inner blocks, slots 3 to 15 its leaves. Leaf s holds s in each of its 48 bytes, the last one 7 and 8.
+unfoldable pub tall : List Fact
+tall =
+    inner 0 2 1 2 (1 ∷ 2 ∷ []) ∷ inner 1 1 1 1 (range 3 12) ∷ inner 2 1 1 1 (15 ∷ [])
+    ∷ (map (λ s. leaf s 1 1 (replicate 48 s)) (range 3 12) ++ (leaf 15 1 1 (7 ∷ 8 ∷ []) ∷ []))
+
+-- the older leaf of slot 1 beside a record that is one version further
+unfoldable pub rolledBack : Store
+rolledBack = record { pool = twice (leaf 1 1 1 full) .pool; records = twice (leaf 1 1 2 full) .records }
+
+-- a head that is opened on root 0, and what it is asked for
+unfoldable pub opened-on : Store → (sizes : List ℕ) → (handedOut : List (List ℕ)) → Case
+opened-on S sizes ps = asked (S .pool) (openHead one (S .pool) (S .records) 0) sizes ps
+
+-- Reading heads (request W-201).
+unfoldable pub heads : List Case
+heads =
+    -- pieces that end within a leaf, ask for nothing, cross leaves and rows, ask for more than remains, and come after the end
+    opened-on (holding tall) (50 ∷ 0 ∷ 525 ∷ 2 ∷ 9 ∷ 1 ∷ [])
+    ((replicate 48 3 ++ (4 ∷ 4 ∷ []))
+    ∷ []
+    ∷ (replicate 46 4 ++ (joined (map (replicate 48) (range 5 9)) ++ replicate 47 14))
+    ∷ (14 ∷ 7 ∷ [])
+    ∷ (8 ∷ [])
+    ∷ []
+    ∷ [])
+    -- a refused head hands out nothing
+    ∷ opened-on rolledBack (1 ∷ 2 ∷ []) ([] ∷ [] ∷ [])
+    -- a head that no opening made: of a slot that the pool has not, zeros; from a place behind its length on, nothing
+    ∷ asked (empty 1) (headAt 1 0 3) (2 ∷ 2 ∷ []) ((0 ∷ 0 ∷ []) ∷ (0 ∷ []) ∷ [])
+    ∷ asked (empty 1) (headAt 0 5 3) (2 ∷ []) ([] ∷ [])
+    ∷ []
+
+pub cases-hold : all right (joined (cases ∷ worked ∷ refusals ∷ links ∷ worn ∷ heads ∷ [])) ≡ true
+unfolding cases worked twelve refusals links worn heads tall rolledBack opened-on samePieces headOf openHead blockAt childAt below heightAt byteAt piece handed handedOut moved pieces blockIn lineIn holding full twice sharing versions right played sameSaid true-of holds empty two beside one pick both part pasted joined range filter all ofLast mapLast only sameList zeros number bytes padded fours sameCell itemBytes header blockBytes encoded block heightOf countOf ownSlot versionOf dataOf childrenOf recordWith recordOf recordAt stateOf recordedOf state recorded soundRecord lastVersion usableSlot slotOf atSlot content leaves cells rootOf contentOf leavesOf cellsOf slotsOf lengthOf held up leavesFor totalWithin total leastCount mostCount refusalOf at nowhere must first flaw used formed blockCheck isRoot linkCheck andThen passing isEmpty oneVisit visitRow visit fromRoot roots closingCheck closing poolCheck put puts changedBy freed renewed changed changes lowest chain onLast roomy hang raised addLeaf addLeaves lastLeaf share shares lastBytes longer keepRow keep lower shorter resized refuseIf afterCheck slotsIn sized refuseBadRecord opened withBlob usable rooted changing refuseWorn refuseFull become createOn createIn newBlocks resizeOn resizeIn createCall resizeCall after freeRecords wiped says createdSaid createAnswer auditSaid auditAnswer changedSaid changeAnswer lengthSaid lengthAnswer saidWith finishedSaid finishAnswer readOut perform reading blobCheck lengthOn lengthIn refusePast readOn readIn live auditOn auditIn writeOn writeIn lengthCall readCall auditCall writeCall along refill refilled slotNumber
 cases-hold = refl

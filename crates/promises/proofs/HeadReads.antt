@@ -10,7 +10,7 @@ use borrow.Author.Tests.{ltb-true, le-ltb, not-false}
 use lib.Dec.{ltb, eqb}
 use lib.ListN.{length, getD, replicate}
 use Rattle.meaning.specs.declared.Edition.{Edition}
-use Rattle.meaning.specs.Lists.{both, part, range, number}
+use Rattle.meaning.specs.Lists.{both, part, number}
 use Rattle.meaning.specs.Edition.{Proper}
 use Rattle.meaning.specs.Bytes.{block, state}
 use Rattle.meaning.specs.Tree.{Blob, contentOf, lengthOf}

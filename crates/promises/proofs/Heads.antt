@@ -18,7 +18,7 @@ use Rattle.meaning.specs.Tree.{Blob, lengthOf}
 use Rattle.meaning.specs.Refusals.{at}
 use Rattle.meaning.specs.Walk.{fine}
 use Rattle.meaning.specs.Change.{Change, Store}
-use Rattle.meaning.specs.Calls.{refused, done, sized, lengthCall, readCall}
+use Rattle.meaning.specs.Calls.{done, sized, lengthCall}
 use Rattle.meaning.specs.Answers.{yields, refuses}
 use Rattle.meaning.specs.Run.{Call, tellLength, read, says, run}
 use Rattle.meaning.specs.Head.{headAt, headOf, openHead, heightAt, piece, handed, handedOut, moved, pieces, sum}

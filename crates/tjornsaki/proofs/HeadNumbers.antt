@@ -4,7 +4,6 @@ use mathlib.Core.Path.{_≡_, refl, ap, _∙_}
 use mathlib.Core.List.{List, [], _∷_}
 use Prim.Native.Nat.{ℕ, _+_}
 use borrow.Author.Tests.{eq-eqb, ne-eqb}
-use lib.Dec.{eqb}
 use lib.ListN.{length, getD, set}
 use Rattle.meaning.specs.Lists.{pick}
 use Rattle.meaning.specs.Calls.{Outcome}
@@ -14,7 +13,7 @@ use Rattle.meaning.specs.declared.Edition.{Edition}
 use Rattle.meaning.specs.declared.Length.{Length}
 use Rattle.meaning.specs.declared.Length.the-variants.{Is, Refused}
 use Rattle.meaning.specs.declared.Refusal.{Refusal}
-use Rattle.answers.specs.Numbers.{valueNumbers, numbers, lengthNumbers}
+use Rattle.answers.specs.Numbers.{valueNumbers, numbers}
 use Rattle.answers.proofs.NumbersOfCalls.{length-numbers}
 use Rattle.tjornsaki.specs.heads.{headNumbers, openLength, headFrom, OpenNumbers, NextNumbers}
 

@@ -8,8 +8,6 @@ use lib.ListN.{length, take, drop, replicate, length-append, replicate-append-re
 use lib.Seq.{take-append-seam, drop-append-add}
 use Rattle.meaning.specs.Lists.{joined, bytes, padded, pasted}
 use Rattle.laws.proofs.Codec.{fours-length, padded-length, padded-fits}
-use Rattle.laws.proofs.Parts.{drop-pasted}
-use Rattle.laws.proofs.Building.{take-pasted-to}
 
 -- the bytes of two rows, one after the other
 pub spelled-append : (a b : List ℕ) → joined (map (bytes 4) (a ++ b)) ≡ joined (map (bytes 4) a) ++ joined (map (bytes 4) b)
