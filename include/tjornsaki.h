@@ -7,13 +7,13 @@
  *
  * Every function takes any pool, any records, any lengths and any numbers: what does not fit is refused, and nothing is undefined, as long as
  *   - no pointer is NULL, also before a length of 0, and each points to as many bytes as the length after it says,
- *   - answer points to eight numbers,
- *   - pool, records, out and answer do not overlap, and neither does data with pool, records or answer,
+ *   - answer points to eight numbers, and head to four,
+ *   - pool, records, head, out and answer do not overlap, and neither does data with pool, records or answer,
  *   - no other thread touches them during the call.
  * A function keeps no pointer and nothing else between calls, takes no memory from the heap, and calls nothing but C's memset and memcpy.
  * It needs at most TJ_STACK bytes of stack: its own rows have a place for each of 1,024 slots, ten bytes a slot in write, resize and delete, five
- * in length, read and show, one in create and audit; and the walk is never deeper than four blocks. tests/c/stack.c measures each call on a pool
- * that one blob fills.
+ * in length, read, show and opening a head, one in create and audit, none in tj_next; and the walk is never deeper than four blocks.
+ * tests/c/stack.c measures each call on a pool that one blob fills.
  *
  * Every function leaves eight numbers in answer, whatever was there before:
  *   answer[TJ_REFUSAL]      the number of the refusal, 0 if the call was done
@@ -22,7 +22,7 @@
  *   answer[TJ_COUNT]        tj_show: how many bytes the shown part has; 0 in every other case
  *   answer[4] to answer[7]  0
  *
- * A call that is refused writes nothing but answer. The refusals, of which the first that holds is given:
+ * A call that is refused writes nothing but answer; tj_open_head also leaves a head of zeros. The refusals, of which the first that holds is given:
  *
  *    1  the pool's length is not 64 N with N from 1 to 1,024, or the records' length is not 12 N
  *    2  a record breaks its layout; names the lowest such slot
@@ -37,8 +37,19 @@
  *   11  more new blocks are needed than there are usable free slots
  *   12  write or resize of a blob that has a block at version 2^64 - 1
  *
- * They come in this order: 1; 2; 3 where a root is named; 4 to 9 for the blob (length, read, show) or for the whole pool (create, write,
- * resize, delete, audit); 12; 10; 11. tj_wipe knows refusal 1 only. The refusals 1, 3, 10, 11 and 12 name no slot.
+ * They come in this order: 1; 2; 3 where a root is named; 4 to 9 for the blob (length, opening a head, read, show) or for the whole pool (create,
+ * write, resize, delete, audit); 12; 10; 11. tj_wipe knows refusal 1 only, tj_next none. The refusals 1, 3, 10, 11 and 12 name no slot.
+ *
+ * A head hands out a blob's bytes from the first to the last, as many at a time as one asks for: however the asking is cut up, the pieces joined are
+ * what tj_read gives. It is four numbers that the caller keeps; tj_open_head sets them, and tj_next moves the place on:
+ *   head[TJ_HEAD_ROOT]      the blob's root
+ *   head[TJ_HEAD_PLACE]     how many bytes were handed out so far
+ *   head[TJ_HEAD_LENGTH]    the blob's length
+ *   head[TJ_HEAD_OPEN]      1; if opening was refused, all four are 0, and such a head hands out nothing, for ever
+ *
+ * Only opening checks the blob. So the pool must not change between askings, or the bytes are those of the changed pool, unchecked: open anew
+ * after a change. A head that tj_open_head did not make, or that is used with another pool, hands out some bytes of the pool that is lent, or zeros;
+ * which ones, docs/DECISIONS.md says. Whatever its numbers are, tj_next touches nothing outside what it is lent.
  */
 #ifndef TJORNSAKI_H
 #define TJORNSAKI_H
@@ -50,12 +61,23 @@
 extern "C" {
 #endif
 
+/* Rises when a function is added or a signature changes; 1 was the nine functions without a head. It is the second number of the version that
+ * pkg-config tells. */
+#define TJ_VERSION 2
+
 /* The numbers in an answer, and the places of those that have a name. */
 #define TJ_ANSWER 8
 #define TJ_REFUSAL 0
 #define TJ_SLOT 1
 #define TJ_VALUE 2
 #define TJ_COUNT 3
+
+/* The numbers of a head, and their places. */
+#define TJ_HEAD 4
+#define TJ_HEAD_ROOT 0
+#define TJ_HEAD_PLACE 1
+#define TJ_HEAD_LENGTH 2
+#define TJ_HEAD_OPEN 3
 
 /* The number that stands for no slot. */
 #define TJ_NO_SLOT UINT64_MAX
@@ -97,6 +119,15 @@ void tj_length(const uint8_t *pool, size_t pool_length, const uint8_t *records, 
  * call is refused, out is untouched. No value. */
 void tj_read(const uint8_t *pool, size_t pool_length, const uint8_t *records, size_t records_length, uint64_t root, uint64_t offset,
              uint8_t *out, size_t out_length, uint64_t answer[TJ_ANSWER]);
+
+/* Opens a head at the blob's first byte, and checks the blob, with the refusals of tj_length. Value: the blob's length. */
+void tj_open_head(const uint8_t *pool, size_t pool_length, const uint8_t *records, size_t records_length, uint64_t root,
+                  uint64_t head[TJ_HEAD], uint64_t answer[TJ_ANSWER]);
+
+/* Hands out the blob's next bytes, as many as out has room for or as remain, into the first bytes of out; the rest of out stays as it was. No records
+ * are needed, and nothing is refused: at the end, and by a head that is not open, 0 bytes are handed out. Of head the place alone changes.
+ * Value: how many bytes were handed out. */
+void tj_next(const uint8_t *pool, size_t pool_length, uint64_t head[TJ_HEAD], uint8_t *out, size_t out_length, uint64_t answer[TJ_ANSWER]);
 
 /* Puts data into the blob from the offset on, inside its present length. No value. */
 void tj_write(uint8_t *pool, size_t pool_length, uint8_t *records, size_t records_length, uint64_t root, uint64_t offset,
