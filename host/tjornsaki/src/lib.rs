@@ -28,13 +28,18 @@
 //! # }
 //! ```
 //!
+//! A [`Head`] reads a blob from its first byte to its last, in pieces of any
+//! size, and checks it once.
+//!
 //! This crate only lends slices to the library and takes its answer apart.
 #![deny(unsafe_code)]
 #![warn(missing_docs)]
 
+mod head;
 pub mod raw;
 mod refusal;
 
+pub use head::Head;
 use raw::{Answer, NO_SLOT};
 pub use refusal::Refusal;
 
@@ -99,7 +104,8 @@ pub fn length(pool: &[u8], records: &[u8], root: u64) -> Result<u64, Refusal> {
 }
 
 /// Fills the whole of `out` with the blob's bytes from `offset` on. Refused
-/// with 10 if the blob does not reach so far; then `out` stays as it is.
+/// with 10 if the blob does not reach so far; then `out` stays as it is. Every
+/// read checks the whole blob: to read one in pieces, open a [`Head`].
 ///
 /// ```
 /// let (mut pool, mut records) = tjornsaki::room(4);

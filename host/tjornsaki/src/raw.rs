@@ -1,4 +1,4 @@
-//! The nine C functions with slices in place of pointers, and the eight
+//! The eleven C functions with slices in place of pointers, and the eight
 //! numbers of their answer as they leave them. This is the only module with
 //! unsafe code: each function hands a slice on as its pointer and its length,
 //! and the library is proved to stay inside what it is lent.
@@ -7,9 +7,16 @@
 //! |---|---|
 //! | 0 | the refusal's number, or 0 |
 //! | 1 | the slot to blame, or [`NO_SLOT`] |
-//! | 2 | the value: a slot, a length, a count, or where a shown part starts; else 0 |
+//! | 2 | the value: a slot, a length, a count of slots or of bytes, or where a shown part starts; else 0 |
 //! | 3 | the length of a shown part; else 0 |
 //! | 4 to 7 | 0 |
+//!
+//! | head | holds |
+//! |---|---|
+//! | 0 | the blob's root |
+//! | 1 | the place: how many bytes were handed out |
+//! | 2 | the blob's length |
+//! | 3 | 1 if it is open |
 #![allow(unsafe_code)]
 
 /// Stands in an answer where there is no slot to blame.
@@ -17,6 +24,9 @@ pub const NO_SLOT: u64 = u64::MAX;
 
 /// The eight numbers that every C function leaves.
 pub type Answer = [u64; 8];
+
+/// The four numbers of a head; all are 0 if opening it was refused.
+pub type HeadNumbers = [u64; 4];
 
 #[link(name = "tjornsaki", kind = "static")]
 extern "C" {
@@ -72,6 +82,16 @@ extern "C" {
         answer: *mut u64,
     );
     fn tj_audit(pool: *const u8, p: usize, records: *const u8, r: usize, answer: *mut u64);
+    fn tj_open_head(
+        pool: *const u8,
+        p: usize,
+        records: *const u8,
+        r: usize,
+        root: u64,
+        head: *mut u64,
+        answer: *mut u64,
+    );
+    fn tj_next(pool: *const u8, p: usize, head: *mut u64, out: *mut u8, o: usize, answer: *mut u64);
 }
 
 /// `tj_wipe`; see [`crate::wipe`].
@@ -140,6 +160,25 @@ pub fn show(pool: &[u8], records: &[u8], root: u64, leaf: u64, answer: &mut Answ
 pub fn audit(pool: &[u8], records: &[u8], answer: &mut Answer) {
     let ((p, p_len), (r, r_len)) = (lend(pool), lend(records));
     unsafe { tj_audit(p, p_len, r, r_len, answer.as_mut_ptr()) }
+}
+
+/// `tj_open_head`; see [`crate::Head::open`].
+pub fn open_head(
+    pool: &[u8],
+    records: &[u8],
+    root: u64,
+    head: &mut HeadNumbers,
+    answer: &mut Answer,
+) {
+    let ((p, p_len), (r, r_len), head) = (lend(pool), lend(records), head.as_mut_ptr());
+    unsafe { tj_open_head(p, p_len, r, r_len, root, head, answer.as_mut_ptr()) }
+}
+
+/// `tj_next`; see [`crate::Head::next`]. The head may have any numbers, and the
+/// pool may be any: then some bytes of the pool or zeros are handed out.
+pub fn next(pool: &[u8], head: &mut HeadNumbers, out: &mut [u8], answer: &mut Answer) {
+    let ((p, p_len), (o, o_len)) = (lend(pool), lend_mut(out));
+    unsafe { tj_next(p, p_len, head.as_mut_ptr(), o, o_len, answer.as_mut_ptr()) }
 }
 
 fn lend(bytes: &[u8]) -> (*const u8, usize) {

@@ -1,7 +1,7 @@
 //! How the store says no.
 
 use std::error::Error;
-use std::fmt;
+use std::{fmt, io};
 
 /// A refused call: why, and the slot to blame where there is one.
 ///
@@ -100,3 +100,24 @@ impl fmt::Display for Refusal {
 }
 
 impl Error for Refusal {}
+
+/// So that `?` hands a refusal on where bytes are read and written; the refusal
+/// itself stands in the error.
+///
+/// ```
+/// use std::io;
+/// use tjornsaki::{Head, Refusal};
+///
+/// fn copy(pool: &[u8], records: &[u8], blob: u64, out: &mut impl io::Write) -> io::Result<u64> {
+///     io::copy(&mut Head::open(pool, records, blob)?, out)
+/// }
+///
+/// let error = copy(&[], &[], 0, &mut io::sink()).unwrap_err();
+/// let refusal = error.get_ref().and_then(|inside| inside.downcast_ref());
+/// assert_eq!(refusal, Some(&Refusal { number: 1, slot: None }));
+/// ```
+impl From<Refusal> for io::Error {
+    fn from(refusal: Refusal) -> io::Error {
+        io::Error::new(io::ErrorKind::Other, refusal)
+    }
+}

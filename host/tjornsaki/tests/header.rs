@@ -1,7 +1,7 @@
 //! The crate and the header of the C functions say the same.
 
 use std::mem::size_of;
-use tjornsaki::raw::Answer;
+use tjornsaki::raw::{Answer, HeadNumbers};
 use tjornsaki::{BLOCK_BYTES, MOST_SLOTS, RECORD_BYTES};
 
 /// The number that the header gives this name.
@@ -23,4 +23,5 @@ fn the_same_sizes() {
     assert_eq!(defined("TJ_RECORD"), RECORD_BYTES);
     assert_eq!(defined("TJ_SLOTS"), MOST_SLOTS);
     assert_eq!(defined("TJ_ANSWER"), size_of::<Answer>() / size_of::<u64>());
+    assert_eq!(defined("TJ_HEAD"), size_of::<HeadNumbers>() / size_of::<u64>());
 }
