@@ -46,11 +46,19 @@ impl Content {
         }
     }
 
+    /// Child number `index`, from 0 to 11, as its four bytes say: whatever the
+    /// count is.
+    pub fn child(&self, index: usize) -> u32 {
+        let start = index * CHILD_BYTES;
+        let mut four = [0; CHILD_BYTES];
+        four.copy_from_slice(&self.payload[start..start + CHILD_BYTES]);
+        u32::from_le_bytes(four)
+    }
+
     /// The child slots of an inner block in row order.
     pub fn children(&self) -> impl DoubleEndedIterator<Item = u32> + '_ {
-        let row = self.payload.chunks_exact(CHILD_BYTES);
-        row.map(|four| u32::from_le_bytes([four[0], four[1], four[2], four[3]]))
-            .take(usize::from(self.count))
+        let count = usize::from(self.count).min(FAN_OUT);
+        (0..count).map(move |index| self.child(index))
     }
 
     /// The last child's slot. A leaf, or an inner block without a child, has none.

@@ -33,10 +33,16 @@ pub enum Fault {
     WornSlotUsable,
     /// A blob with a worn block may be changed.
     WornBlobChanged,
+    /// A head's place stays where it is.
+    HeadStartsOver,
+    /// A head hands out one byte past the end.
+    HeadPastTheEnd,
+    /// A head skips a byte after each piece.
+    HeadSkipsAByte,
 }
 
 /// Every bug that can be planted.
-pub const ALL: [Fault; 14] = [
+pub const ALL: [Fault; 17] = [
     Fault::ReusedSlotAtVersionOne,
     Fault::VersionNotRaised,
     Fault::RecordRaisedAlone,
@@ -51,6 +57,9 @@ pub const ALL: [Fault; 14] = [
     Fault::RowCheckedFirst,
     Fault::WornSlotUsable,
     Fault::WornBlobChanged,
+    Fault::HeadStartsOver,
+    Fault::HeadPastTheEnd,
+    Fault::HeadSkipsAByte,
 ];
 
 #[cfg(feature = "faults")]

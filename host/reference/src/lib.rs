@@ -2,8 +2,8 @@
 //! slices, the pool (untrusted blocks) and the records (trusted versions).
 //!
 //! The code follows the paper sentence by sentence and prefers clearness to
-//! speed. Comments in quotation marks cite the paper; "reading 5" and the like
-//! cite the list of readings of its open sentences.
+//! speed. Comments in quotation marks cite the paper, in `head` the request;
+//! "reading 5" and the like cite the list of readings of its open sentences.
 //!
 //! * `bytes`: the layout of a block and of a record
 //! * `shape`: how many leaves and blocks a length has
@@ -12,6 +12,7 @@
 //! * `cells`: the model that changing calls work on, and the version rule
 //! * `resize`: longer and shorter, leaf by leaf
 //! * `calls`: the nine calls
+//! * `head`: the reading head of request W-201
 //! * `faults`: bugs that can be planted for trying a comparison
 #![forbid(unsafe_code)]
 
@@ -19,6 +20,7 @@ mod bytes;
 mod calls;
 mod cells;
 pub mod faults;
+mod head;
 mod refusals;
 mod resize;
 mod shape;
@@ -27,4 +29,5 @@ mod tests;
 mod walk;
 
 pub use calls::{audit, create, delete, length, read, resize, show, wipe, write};
+pub use head::{next, open_head, Head};
 pub use refusals::Refusal;

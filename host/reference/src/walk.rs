@@ -6,7 +6,7 @@ use crate::faults::{planted, Fault};
 use crate::refusals::{No, Refusal};
 
 /// "a root's [height is] at most 3"
-const HIGHEST_ROOT: u8 = 3;
+pub const HIGHEST_ROOT: u8 = 3;
 
 /// What a walk from one root found, all of it checked.
 pub struct Blob {

@@ -6,21 +6,21 @@ use crate::shape::{block_total, leaf_count};
 use std::collections::BTreeMap;
 
 /// A small generator of numbers (splitmix64), the same in every run.
-struct Chance(u64);
+pub struct Chance(pub u64);
 
 impl Chance {
-    fn next(&mut self) -> u64 {
+    pub fn next(&mut self) -> u64 {
         self.0 = self.0.wrapping_add(0x9E37_79B9_7F4A_7C15);
         let mixed = (self.0 ^ (self.0 >> 30)).wrapping_mul(0xBF58_476D_1CE4_E5B9);
         let mixed = (mixed ^ (mixed >> 27)).wrapping_mul(0x94D0_49BB_1331_11EB);
         mixed ^ (mixed >> 31)
     }
 
-    fn below(&mut self, bound: u64) -> u64 {
+    pub fn below(&mut self, bound: u64) -> u64 {
         self.next() % bound
     }
 
-    fn bytes(&mut self, size: usize) -> Vec<u8> {
+    pub fn bytes(&mut self, size: usize) -> Vec<u8> {
         (0..size).map(|_| self.next() as u8).collect()
     }
 }
@@ -123,7 +123,7 @@ fn any_call(store: &mut Store, chance: &mut Chance) {
     let (root, offset, length) = (number(12), number(700), number(700));
     let size = chance.below(100) as usize;
     let data = chance.bytes(size);
-    let _ = match chance.below(9) {
+    let _ = match chance.below(11) {
         0 => store.create().map(|_| ()),
         1 => store.length(root).map(|_| ()),
         2 => store.read(root, offset, size).map(|_| ()),
@@ -131,6 +131,11 @@ fn any_call(store: &mut Store, chance: &mut Chance) {
         4 | 5 => store.resize(root, length),
         6 => store.delete(root),
         7 => store.show(root, offset).map(|_| ()),
+        8 => store.open_head(root).map(|mut head| drop(store.next(&mut head, size))),
+        9 => {
+            store.next(&mut [root, offset, length, 1], size);
+            Ok(())
+        }
         _ => store.audit().map(|_| ()),
     };
 }

@@ -2,6 +2,8 @@
 //! checks that a refusal leaves pool, records and output untouched.
 
 mod chance;
+mod forged_heads;
+mod heads;
 mod numbers;
 mod order;
 mod readings_calls;
@@ -11,7 +13,7 @@ mod refusals;
 mod resizing;
 mod versions;
 
-use crate::Refusal;
+use crate::{Head, Refusal};
 
 pub const FREE: u8 = 0;
 pub const PART: u8 = 1;
@@ -90,6 +92,28 @@ impl Store {
 
     pub fn audit(&self) -> Result<u64, Refusal> {
         crate::audit(&self.pool, &self.records)
+    }
+
+    /// A head on this root. What stood in its numbers before is gone either way.
+    pub fn open_head(&self, root: u64) -> Result<Head, Refusal> {
+        let mut head = [7; 4];
+        let answer = crate::open_head(&self.pool, &self.records, root, &mut head);
+        match answer {
+            Ok(length) => assert_eq!(head, [root, 0, length, 1]),
+            Err(_) => assert_eq!(head, [0; 4], "a refused head is not all zeros"),
+        }
+        answer.map(|_| head)
+    }
+
+    /// What the head hands out when it is asked for so many bytes.
+    pub fn next(&self, head: &mut Head, size: usize) -> Vec<u8> {
+        let before = *head;
+        let mut out = vec![0x77; size];
+        let count = crate::next(&self.pool, head, &mut out);
+        assert_eq!(*head, [before[0], before[1] + count, before[2], before[3]]);
+        let rest = out.split_off(count as usize);
+        assert!(rest.iter().all(|byte| *byte == 0x77), "the rest of the output was written");
+        out
     }
 
     fn unchanged_if_refused<T>(

@@ -16,6 +16,7 @@ fn readers_refuse(store: &Store, root: u64, refusal: Refusal) {
     assert_eq!(store.length(root), Err(refusal));
     assert_eq!(store.read(root, 0, 0), Err(refusal));
     assert_eq!(store.show(root, 0), Err(refusal));
+    assert_eq!(store.open_head(root), Err(refusal));
 }
 
 /// The calls with the pool check refuse like this; nothing is wrong with what they ask.
