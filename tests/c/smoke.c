@@ -1,51 +1,11 @@
 /* The library as C sees it: each function once done and once refused, with all eight numbers of each answer, and the bytes where they matter.
  * What is expected is taken from document 01's rules and laid out by hand. */
-#include <stdio.h>
-#include <string.h>
-
-#include "tjornsaki.h"
+#include "checks.h"
 
 #define SLOTS 4
 
 static uint8_t pool[TJ_BLOCK * SLOTS];
 static uint8_t records[TJ_RECORD * SLOTS];
-static uint64_t answer[TJ_ANSWER];
-static unsigned checks, failures;
-
-static void check(int holds, const char *what, int line)
-{
-    checks++;
-    if (!holds) {
-        failures++;
-        fprintf(stderr, "line %d: %s\n", line, what);
-    }
-}
-
-#define CHECK(what) check((what), #what, __LINE__)
-
-/* Something that is no answer, so that a number which a call leaves out is seen. */
-static void forget(void)
-{
-    memset(answer, 0xA5, sizeof answer);
-}
-
-static int says(uint64_t refusal, uint64_t slot, uint64_t value, uint64_t count)
-{
-    const uint64_t wanted[TJ_ANSWER] = {refusal, slot, value, count, 0, 0, 0, 0};
-    int same = memcmp(answer, wanted, sizeof wanted) == 0;
-    forget();
-    return same;
-}
-
-static int done(uint64_t value)
-{
-    return says(TJ_DONE, TJ_NO_SLOT, value, 0);
-}
-
-static int refused(uint64_t refusal, uint64_t slot)
-{
-    return says(refusal, slot, 0, 0);
-}
 
 static int zeros(const uint8_t *bytes, size_t count)
 {
@@ -113,6 +73,16 @@ static void show(uint64_t root, uint64_t leaf)
 static void audit(void)
 {
     tj_audit(pool, sizeof pool, records, sizeof records, answer);
+}
+
+static void open_head(uint64_t root, uint64_t head[TJ_HEAD])
+{
+    tj_open_head(pool, sizeof pool, records, sizeof records, root, head, answer);
+}
+
+static void next(uint64_t head[TJ_HEAD], uint8_t *out, size_t size)
+{
+    tj_next(pool, sizeof pool, head, out, size, answer);
 }
 
 static void write_bytes(uint64_t root, uint64_t offset, const char *text, size_t size)
@@ -212,6 +182,32 @@ static void test_reading(void)
     CHECK(done(1));
 }
 
+/* The same blob by a head; after its end, and where opening is refused, nothing is handed out. tests/c/heads.c has more. */
+static void test_head(void)
+{
+    uint8_t out[4] = {0x77, 0x77, 0x77, 0x77};
+    uint64_t head[TJ_HEAD] = {9, 9, 9, 9};
+    wipe();
+    lay_record(2, 2, 9);
+    lay_leaf(2, 9, "abc");
+    CHECK(done(0));
+    open_head(2, head);
+    CHECK(done(3) && head_is(head, 2, 0, 3, 1));
+    next(head, out, 2);
+    CHECK(done(2) && head_is(head, 2, 2, 3, 1));
+    CHECK(memcmp(out, "abww", 4) == 0);
+    next(head, out, 4);
+    CHECK(done(1) && head_is(head, 2, 3, 3, 1));
+    CHECK(memcmp(out, "cbww", 4) == 0);
+    next(head, out, 4);
+    CHECK(done(0) && head_is(head, 2, 3, 3, 1));
+    open_head(1, head);
+    CHECK(refused(TJ_NO_ROOT, TJ_NO_SLOT) && head_is(head, 0, 0, 0, 0));
+    next(head, out, 4);
+    CHECK(done(0) && head_is(head, 0, 0, 0, 0));
+    CHECK(memcmp(out, "cbww", 4) == 0);
+}
+
 /* A changed block goes one version up; equal bytes and no bytes change nothing; nothing is written past the end. */
 static void test_write(void)
 {
@@ -277,6 +273,7 @@ static void test_resize(void)
 static void test_lengths(void)
 {
     uint8_t out[1] = {0x77};
+    uint64_t head[TJ_HEAD] = {9, 9, 9, 9};
     memset(pool, 0x5A, sizeof pool);
     memset(records, 0x5A, sizeof records);
     tj_wipe(pool, sizeof pool - 1, records, sizeof records, answer);
@@ -289,6 +286,8 @@ static void test_lengths(void)
     CHECK(refused(TJ_BAD_LENGTHS, TJ_NO_SLOT));
     tj_show(pool, sizeof pool, records, 0, 0, 0, answer);
     CHECK(refused(TJ_BAD_LENGTHS, TJ_NO_SLOT));
+    tj_open_head(pool, sizeof pool, records, sizeof records + 1, 0, head, answer);
+    CHECK(refused(TJ_BAD_LENGTHS, TJ_NO_SLOT) && head_is(head, 0, 0, 0, 0));
     tj_audit(pool, TJ_BLOCK, records, sizeof records, answer);
     CHECK(refused(TJ_BAD_LENGTHS, TJ_NO_SLOT));
     tj_delete(pool, TJ_BLOCK + 1, records, TJ_RECORD, 0, answer);
@@ -359,11 +358,11 @@ int main(void)
     test_create_and_delete();
     test_empty_blob();
     test_reading();
+    test_head();
     test_write();
     test_resize();
     test_lengths();
     test_named_slots();
     test_full();
-    printf("%u checks, %u failed\n", checks, failures);
-    return failures != 0;
+    return told();
 }

@@ -10,10 +10,11 @@
 #define ROOM (1u << 20)
 #define PAINT 0xA5
 #define LONGEST 44976 /* the bytes of the blob that fills 1,024 slots */
+#define LITTLE 1024   /* what tj_next may take, which has no rows of its own */
 
 static uint8_t stack[ROOM] __attribute__((aligned(4096)));
 static uint8_t pool[TJ_BLOCK * TJ_SLOTS], records[TJ_RECORD * TJ_SLOTS], bytes[LONGEST];
-static uint64_t answer[TJ_ANSWER];
+static uint64_t answer[TJ_ANSWER], head[TJ_HEAD];
 static uint64_t root, length;
 static volatile uint8_t *frame;
 
@@ -26,6 +27,8 @@ static void resize(void) { tj_resize(pool, sizeof pool, records, sizeof records,
 static void delete(void) { tj_delete(pool, sizeof pool, records, sizeof records, root, answer); }
 static void show(void) { tj_show(pool, sizeof pool, records, sizeof records, root, 0, answer); }
 static void audit(void) { tj_audit(pool, sizeof pool, records, sizeof records, answer); }
+static void open_head(void) { tj_open_head(pool, sizeof pool, records, sizeof records, root, head, answer); }
+static void next(void) { tj_next(pool, sizeof pool, head, bytes, length, answer); }
 static void nothing(void) {}
 
 static void *call_in_thread(void *call)
@@ -82,6 +85,12 @@ int main(void)
     measure("read", read, TJ_STACK);
     measure("show", show, TJ_STACK);
     measure("audit", audit, TJ_STACK);
+    measure("opening a head", open_head, TJ_STACK);
+    measure("next", next, LITTLE);
+    if (head[TJ_HEAD_PLACE] != LONGEST) {
+        failures++;
+        fprintf(stderr, "next: not the whole blob was handed out\n");
+    }
     length = 1;
     measure("resize, shorter", resize, TJ_STACK);
     measure("delete", delete, TJ_STACK);
