@@ -213,6 +213,19 @@ fn numbers_of_a_head() {
     }
 }
 
+/// Only a fourth number of 1 is an open head.
+#[test]
+fn a_head_that_is_not_open() {
+    let ((pool, records), root) = store(&bytes(100));
+    assert_eq!(length(&pool, &records, root), Ok(100));
+    for open in [0, 2, 1 << 32 | 1, u64::MAX] {
+        let (mut head, mut answer, mut out) = ([root, 0, 100, open], [99; 8], [0xEE; 60]);
+        raw::next(&pool, &mut head, &mut out, &mut answer);
+        assert_eq!((head, answer), ([root, 0, 100, open], [0, NO_SLOT, 0, 0, 0, 0, 0, 0]));
+        assert_eq!(out, [0xEE; 60]);
+    }
+}
+
 /// Nothing is checked again: the bytes are those that the pool has by then.
 #[test]
 fn a_pool_that_changes_under_a_head() {
