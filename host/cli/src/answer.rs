@@ -4,7 +4,7 @@ use crate::failure::{Failure, BROKEN};
 use crate::json::{success, Json};
 use crate::kernel::output_was_closed;
 use std::fs::File;
-use std::io::Write;
+use std::io::{self, Read, Write};
 use std::os::unix::io::AsFd;
 
 /// The answer of a command that was not stopped.
@@ -78,13 +78,23 @@ pub fn told(failure: &Failure) -> String {
     format!("tjornsaki: {failure}")
 }
 
-/// Writes to standard output to the last byte. It is written to as a file: Rust's
-/// own standard output says that all went well where it is closed.
+/// Writes to standard output to the last byte.
 pub fn print_bytes(bytes: &[u8]) -> Result<(), Failure> {
+    print(|out| out.write_all(bytes))
+}
+
+/// The same with bytes that come in pieces.
+pub fn print_pieces(bytes: &mut dyn Read) -> Result<(), Failure> {
+    print(|out| io::copy(bytes, out).map(|_| ()))
+}
+
+/// It is written to as a file: Rust's own standard output says that all went well
+/// where it is closed.
+fn print(write: impl FnOnce(&mut File) -> io::Result<()>) -> Result<(), Failure> {
     if output_was_closed() {
         return Err(Failure::Other(BROKEN, "standard output is closed".into()));
     }
-    let done = std::io::stdout().as_fd().try_clone_to_owned();
-    let done = done.map(File::from).and_then(|mut out| out.write_all(bytes));
+    let done = io::stdout().as_fd().try_clone_to_owned();
+    let done = done.map(File::from).and_then(|mut out| write(&mut out));
     done.map_err(|error| Failure::output(&error))
 }

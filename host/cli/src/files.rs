@@ -5,7 +5,7 @@ use crate::kernel;
 use crate::replace::New;
 use std::ffi::OsString;
 use std::fs::{self, File, Metadata, OpenOptions, Permissions};
-use std::io::{self, Read, Write};
+use std::io::{self, Read};
 use std::os::unix::ffi::OsStrExt;
 use std::os::unix::fs::{MetadataExt, OpenOptionsExt, PermissionsExt};
 use std::path::{Path, PathBuf};
@@ -210,20 +210,21 @@ pub fn remove(path: &Path) -> Result<(), Failure> {
     }
 }
 
-/// Writes an output file: as a whole or not at all, unless it is a device, a
-/// pipe, or a file of another user or in another user's folder.
-pub fn save(path: &Path, bytes: &[u8]) -> Result<(), Failure> {
+/// Writes an output file, in pieces as its bytes come: as a whole or not at all,
+/// unless it is a device, a pipe, or a file of another user or in another user's
+/// folder.
+pub fn save(path: &Path, bytes: &mut dyn Read) -> Result<(), Failure> {
     let failed = |error| Failure::file("write", path, &error);
     let real = resolved_other(path)?;
     match fs::metadata(&real) {
         Ok(about) if !about.is_file() => {
             let mut file = OpenOptions::new().write(true).open(path).map_err(failed)?;
-            return file.write_all(bytes).map_err(failed);
+            return io::copy(bytes, &mut file).map(|_| ()).map_err(failed);
         }
         Ok(_) => check_writable(&real)?,
         Err(_) => (),
     }
-    New::unique(&real)?.put(bytes)
+    New::unique(&real)?.put_pieces(bytes)
 }
 
 #[cfg(test)]

@@ -27,6 +27,7 @@ use crate::lock::{self, Lock};
 use crate::log::{Lies, Log, MOST_LOG};
 use crate::replace::New;
 use std::fs;
+use std::io::Read;
 use std::path::{Path, PathBuf};
 use std::time::{Duration, Instant};
 use tjornsaki::Refusal;
@@ -122,7 +123,7 @@ impl Place {
     }
 
     /// Writes an output file, which must not be one of the store's own.
-    pub fn save(&self, path: &Path, bytes: &[u8]) -> Result<(), Failure> {
+    pub fn save(&self, path: &Path, bytes: &mut dyn Read) -> Result<(), Failure> {
         if [&self.pool, &self.records].iter().any(|own| same(own, path)) {
             let words = format!("{} belongs to the store", path.display());
             return Err(Failure::usage(words));

@@ -18,7 +18,7 @@ use crate::files::{
 };
 use crate::kernel;
 use std::fs::{self, File, OpenOptions};
-use std::io::{self, Write};
+use std::io::{self, Read, Write};
 use std::os::unix::fs::OpenOptionsExt;
 use std::path::{Path, PathBuf};
 
@@ -106,10 +106,24 @@ impl New {
         self.put_unsettled(bytes)?.sync()
     }
 
-    /// The same, but the disk may still lose the new name, until its folder is
-    /// synced.
+    /// The same with bytes that come in pieces.
+    pub fn put_pieces(mut self, bytes: &mut dyn Read) -> Result<(), Failure> {
+        let written = io::copy(bytes, &mut self.file);
+        self.finish(written)?.sync()
+    }
+
+    /// The same as `put`, but the disk may still lose the new name, until its
+    /// folder is synced.
     pub fn put_unsettled(mut self, bytes: &[u8]) -> Result<Folder, Failure> {
-        self.fill(bytes).map_err(|error| {
+        let written = self.file.write_all(bytes);
+        self.finish(written.map(|()| bytes.len() as u64))
+    }
+
+    /// Once so many bytes are written: nothing follows them, the disk has them,
+    /// and the file takes its name.
+    fn finish(mut self, written: io::Result<u64>) -> Result<Folder, Failure> {
+        let cut = |size| self.file.set_len(size).and_then(|()| self.file.sync_all());
+        written.and_then(cut).map_err(|error| {
             let path = self.staged.0.as_deref().unwrap_or(&self.path);
             Failure::file("write", path, &error)
         })?;
@@ -117,12 +131,6 @@ impl New {
             self.rename(&staged)?;
         }
         Ok(self.folder)
-    }
-
-    fn fill(&mut self, bytes: &[u8]) -> io::Result<()> {
-        self.file.write_all(bytes)?;
-        self.file.set_len(bytes.len() as u64)?;
-        self.file.sync_all()
     }
 
     /// Takes the old file's name, and after a failure looks again.

@@ -6,11 +6,12 @@ mod list;
 mod reading;
 mod status;
 
-use crate::answer::Answer;
+use crate::answer::{print_pieces, Answer};
 use crate::demo;
 use crate::failure::Failure;
 use crate::pair::{Pair, Place};
 use crate::words::Words;
+use std::io::Read;
 use std::path::{Path, PathBuf};
 
 pub fn run(words: &Words) -> Result<Answer, Failure> {
@@ -27,10 +28,12 @@ pub fn run(words: &Words) -> Result<Answer, Failure> {
     changed.map(|answer| answer.done("the change is made"))
 }
 
-/// Where a reading command finds its store, and leaves an output.
+/// Where a reading command finds its store, and leaves an output: in a file, or
+/// printed before its answer is. Bytes go there in pieces, as they come.
 pub trait Source {
     fn load(&self) -> Result<Pair, Failure>;
-    fn save(&self, path: &Path, bytes: &[u8]) -> Result<(), Failure>;
+    fn save(&self, path: &Path, bytes: &mut dyn Read) -> Result<(), Failure>;
+    fn print(&self, bytes: &mut dyn Read) -> Result<(), Failure>;
 }
 
 impl Source for Place {
@@ -38,8 +41,12 @@ impl Source for Place {
         Place::load(self)
     }
 
-    fn save(&self, path: &Path, bytes: &[u8]) -> Result<(), Failure> {
+    fn save(&self, path: &Path, bytes: &mut dyn Read) -> Result<(), Failure> {
         Place::save(self, path, bytes)
+    }
+
+    fn print(&self, bytes: &mut dyn Read) -> Result<(), Failure> {
+        print_pieces(bytes)
     }
 }
 

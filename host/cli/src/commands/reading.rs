@@ -10,7 +10,8 @@ use crate::pair::Pair;
 use crate::reason::{explained, Question};
 use crate::wording::counted;
 use crate::words::Words;
-use tjornsaki::{Refusal, BLOCK_BYTES, RECORD_BYTES};
+use std::io::Read;
+use tjornsaki::{Head, Refusal, BLOCK_BYTES, RECORD_BYTES};
 
 /// What is done once an output file has its name.
 const WRITTEN: &str = "the file is written";
@@ -29,9 +30,8 @@ pub fn get(words: &Words, source: &dyn Source) -> Result<Answer, Failure> {
     let offset = words.number_of("--offset")?.unwrap_or(0);
     let size = words.number_of("--size")?;
     let pair = source.load()?;
-    let bytes = read(&pair, root, offset, size);
-    let bytes = bytes.map_err(|refusal| explained(refusal, &pair, Question::of(root)))?;
-    let size = bytes.len() as u64;
+    let part = part(&pair, root, offset, size);
+    let (mut head, size) = part.map_err(|refusal| explained(refusal, &pair, Question::of(root)))?;
     let mut fields = vec![
         ("root", Json::Number(root)),
         ("offset", Json::Number(offset)),
@@ -39,25 +39,47 @@ pub fn get(words: &Words, source: &dyn Source) -> Result<Answer, Failure> {
     ];
     match words.file(1) {
         Some(path) => {
-            source.save(&path, &bytes)?;
+            source.save(&path, &mut head.take(size))?;
             let words = format!("{} to {}", counted(size, "byte"), path.display());
             Ok(Answer::line(words, fields).done(WRITTEN))
         }
-        None => {
+        None if words.flag("--json") => {
+            let mut bytes = vec![0; size as usize];
+            head.next(&mut bytes);
             fields.push(("hex", Json::hex(&bytes)));
-            Ok(Answer::bytes(bytes, fields).needed())
+            Ok(Answer::bytes(vec![], fields).needed())
+        }
+        None => {
+            source.print(&mut head.take(size))?;
+            Ok(Answer::bytes(vec![], fields))
         }
     }
 }
 
-/// The blob's bytes from an offset on, by default to its end. A size beyond
-/// all stores is asked for as one byte too many.
-fn read(pair: &Pair, root: u64, offset: u64, size: Option<u64>) -> Result<Vec<u8>, Refusal> {
-    let length = tjornsaki::length(&pair.pool, &pair.records, root)?;
-    let size = size.unwrap_or_else(|| length.saturating_sub(offset)).min(length + 1);
-    let mut bytes = vec![0; size as usize];
-    tjornsaki::read(&pair.pool, &pair.records, root, offset, &mut bytes)?;
-    Ok(bytes)
+/// A head at an offset of the blob, and how many bytes are wanted from there on,
+/// by default all that follow. Whether the blob reaches so far is told by a read
+/// of no bytes where they end.
+fn part(
+    pair: &Pair,
+    root: u64,
+    offset: u64,
+    size: Option<u64>,
+) -> Result<(Head<'_>, u64), Refusal> {
+    let end = offset.saturating_add(size.unwrap_or(0));
+    tjornsaki::read(&pair.pool, &pair.records, root, end, &mut [])?;
+    let mut head = Head::open(&pair.pool, &pair.records, root)?;
+    skip(&mut head, offset);
+    let size = size.unwrap_or_else(|| head.remaining());
+    Ok((head, size))
+}
+
+/// Lets the bytes before an offset go by.
+fn skip(head: &mut Head<'_>, offset: u64) {
+    let mut piece = [0; 1024];
+    while head.place() < offset {
+        let size = piece.len().min((offset - head.place()) as usize);
+        head.next(&mut piece[..size]);
+    }
 }
 
 pub fn show(words: &Words, source: &dyn Source) -> Result<Answer, Failure> {
@@ -91,7 +113,7 @@ pub fn draw(words: &Words, source: &dyn Source) -> Result<Answer, Failure> {
     let mut fields = vec![("slots", Json::Number(slots))];
     match words.output("--out") {
         Some(path) => {
-            source.save(&path, svg.as_bytes())?;
+            source.save(&path, &mut svg.as_bytes())?;
             let words = format!("picture of {} in {}", counted(slots, "slot"), path.display());
             Ok(Answer::line(words, fields).done(WRITTEN))
         }

@@ -11,11 +11,11 @@ use std::path::Path;
 pub fn fill(folder: &Path, store: &Store, title: Option<&str>) -> Result<(), Failure> {
     fs::create_dir_all(folder).map_err(|error| Failure::file("make", folder, &error))?;
     let ((name, pool), (records_name, records)) = (&store.pool, &store.records);
-    save(&folder.join(name), pool)?;
-    save(&folder.join(records_name), records)?;
+    save(&folder.join(name), &mut &pool[..])?;
+    save(&folder.join(records_name), &mut &records[..])?;
     if let Some(title) = title {
         let picture = draw::titled(pool, records, title)?;
-        save(&folder.join(name).with_extension("svg"), picture.as_bytes())?;
+        save(&folder.join(name).with_extension("svg"), &mut picture.as_bytes())?;
     }
     Ok(())
 }

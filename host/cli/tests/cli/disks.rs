@@ -52,8 +52,13 @@ done
 
 #[test]
 fn a_full_disk_changes_nothing() {
-    let folder = Folder::new("full_disk");
-    let output = match apart(&folder, FULL) {
+    fails_until_there_is_room("full_disk", FULL);
+}
+
+/// A script that prints a status for each of some disks, small ones first.
+fn fails_until_there_is_room(name: &str, script: &str) {
+    let folder = Folder::new(name);
+    let output = match apart(&folder, script) {
         Some(output) => output,
         None => return,
     };
@@ -63,6 +68,33 @@ fn a_full_disk_changes_nothing() {
     let full = statuses.iter().take_while(|status| **status == "74").count();
     assert!(full > 0 && full < statuses.len(), "{statuses:?}");
     assert!(statuses[full..].iter().all(|status| *status == "0"), "{statuses:?}");
+}
+
+/// An output of 40,000 bytes, on disks from too small to large enough for it and
+/// for the file whose place it takes.
+const OUTPUT: &str = r#"
+set -e
+t init --slots 1024 >&2; t create >&2; head -c 40000 /dev/urandom > input; t put 0 input >&2
+for pages in $(seq 1 $((40000 / $(getconf PAGESIZE) + 3))); do
+    mount -t tmpfs -o nr_blocks=$pages t "$d"
+    echo old > "$d"/out
+    status=0
+    t get 0 "$d"/out > said 2>&1 || status=$?
+    if [ $status = 0 ]; then
+        cmp "$d"/out input
+    else
+        echo old | cmp - "$d"/out
+        grep -q "cannot write .*: No space left" said
+    fi
+    [ "$(ls "$d")" = out ]
+    umount "$d"
+    echo $status
+done
+"#;
+
+#[test]
+fn an_output_that_does_not_fit_leaves_what_was_there() {
+    fails_until_there_is_room("full_output", OUTPUT);
 }
 
 const READ_ONLY: &str = r#"

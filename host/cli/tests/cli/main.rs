@@ -17,6 +17,7 @@ mod numbers;
 mod order;
 mod owners;
 mod pages;
+mod pieces;
 mod pipes;
 mod refusals;
 mod status;

@@ -1,16 +1,6 @@
 //! Standard input and output between commands.
 
-use crate::support::{hundred, shell_function, skipped, there_is, Folder};
-use std::process::Command;
-
-/// Runs a line in a shell that fails if any command of a pipe fails.
-fn shell(folder: &Folder, line: &str) -> (i32, Vec<u8>, String) {
-    let line = format!("set -o pipefail; {}; {line}", shell_function());
-    let output = Command::new("bash").args(["-c", &line]).current_dir(&folder.path).output();
-    let output = output.unwrap();
-    let err = String::from_utf8(output.stderr).unwrap();
-    (output.status.code().unwrap(), output.stdout, err)
-}
+use crate::support::{hundred, shell, skipped, there_is, Folder};
 
 #[test]
 fn from_a_store_into_the_same() {

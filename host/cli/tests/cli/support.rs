@@ -18,6 +18,15 @@ pub fn shell_function() -> String {
     format!("t() {{ {} '{PROGRAM}' \"$@\"; }}", emulator().join(" "))
 }
 
+/// Runs a line in a shell that fails if any command of a pipe fails.
+pub fn shell(folder: &Folder, line: &str) -> (i32, Vec<u8>, String) {
+    let line = format!("set -o pipefail; {}; {line}", shell_function());
+    let output = Command::new("bash").args(["-c", &line]).current_dir(&folder.path).output();
+    let output = output.unwrap();
+    let err = String::from_utf8(output.stderr).unwrap();
+    (output.status.code().unwrap(), output.stdout, err)
+}
+
 /// How a command ended.
 #[derive(Debug)]
 pub struct Ended {
