@@ -67,7 +67,7 @@ refused: it may be that of a command that failed. A plain FILE may be empty.
         short: "write a blob's bytes to a file",
         long: "\
 Writes the blob's bytes to FILE, or to standard output. The whole blob is
-checked before the first byte is written.
+checked before the first byte is written; then it goes out in pieces.
 
   --offset N   from this byte on (0)
   --size N     so many bytes (all that follow)
