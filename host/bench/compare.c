@@ -1,5 +1,6 @@
 /* Each call of two libraries, timed by turns in one run: the one of before, whose functions host/compare renames to old_tj_.., and the one of now.
- * Prints a row of a table for each call: nanoseconds before and now, medians, and their ratio, where one blob fills the pool.
+ * Prints a row of a table for each call: nanoseconds before and now, medians, and their ratio, where one blob fills the pool. A scan by a head, which
+ * not every library of before has, stands beside a read of the whole blob by the library of now.
  *     compare ROUNDS */
 #define _POSIX_C_SOURCE 199309L
 #include <stdio.h>
@@ -30,7 +31,7 @@ typedef struct {
 } store;
 
 /* What the blob holds at first, what is written into it, and where it is read to. */
-static uint8_t first[TJ_BLOCK * TJ_SLOTS], data[TJ_BLOCK * TJ_SLOTS], out[TJ_BLOCK * TJ_SLOTS];
+static uint8_t first[TJ_BLOCK * TJ_SLOTS], data[TJ_BLOCK * TJ_SLOTS], out[TJ_BLOCK * TJ_SLOTS], kept[TJ_BLOCK * TJ_SLOTS];
 
 /* A call of the library of now, or of before. */
 #define BOTH(name, ...) \
@@ -57,6 +58,24 @@ static void more(store *s, int now) { BOTH(resize, 0, s->length + TJ_LEAF, s->an
 static void less(store *s, int now) { BOTH(resize, 0, s->length - TJ_LEAF, s->answer); }
 static void remove_blob(store *s, int now) { BOTH(delete, 0, s->answer); }
 
+/* The whole blob by a head, so many bytes at a time, which then answers as the read beside it does. */
+static void scan(store *s, int now, size_t size)
+{
+    uint64_t head[TJ_HEAD], place;
+    if (!now) {
+        read_all(s, 1);
+        return;
+    }
+    tj_open_head(s->pool, s->pool_length, s->records, s->records_length, 0, head, s->answer);
+    for (place = 0; place < s->length; place += size) {
+        tj_next(s->pool, s->pool_length, head, out + place, size, s->answer);
+    }
+    s->answer[TJ_VALUE] = 0;
+}
+
+static void scan_all(store *s, int now) { scan(s, now, s->length); }
+static void scan_leaves(store *s, int now) { scan(s, now, TJ_LEAF); }
+
 /* What is timed, on a pool that the blob fills but for so many slots; grow starts from an empty blob. */
 static const struct {
     const char *name;
@@ -66,6 +85,7 @@ static const struct {
     {"length", tell, 0}, {"read, whole blob", read_all, 0}, {"read, 48 bytes", read_leaf, 0}, {"show, last leaf", show, 0}, {"audit", audit, 0},
     {"wipe", wipe, 0}, {"create", create, 1}, {"write, whole blob", write_all, 0}, {"write, 48 bytes", write_leaf, 0}, {"resize, from 0 to all", grow, 0},
     {"resize, all to 0", empty, 0}, {"resize, one leaf more", more, 4}, {"resize, one leaf less", less, 0}, {"delete", remove_blob, 0},
+    {"scan, one asking, beside read", scan_all, 0}, {"scan, 48 bytes at a time, beside read", scan_leaves, 0},
 };
 
 static void fail(const char *why)
@@ -133,16 +153,19 @@ static void refresh(store *s, const store *from)
     s->length = from->length;
 }
 
-/* Both libraries leave the same numbers and bytes. */
+/* Both libraries leave the same numbers and bytes, also where they are read to. */
 static void agree(void (*call)(store *, int), const store *before, store *a, store *b)
 {
     refresh(a, before);
     refresh(b, before);
+    memset(out, 0, sizeof out);
     call(a, 0);
+    memcpy(kept, out, sizeof out);
+    memset(out, 0, sizeof out);
     call(b, 1);
     must(a);
     if (memcmp(a->answer, b->answer, sizeof a->answer) != 0 || memcmp(a->pool, b->pool, a->pool_length) != 0
-        || memcmp(a->records, b->records, a->records_length) != 0) {
+        || memcmp(a->records, b->records, a->records_length) != 0 || memcmp(kept, out, sizeof out) != 0) {
         fail("the two libraries differ");
     }
 }

@@ -1,6 +1,6 @@
 //! The aims, and whether the measured times meet them.
 
-use crate::cases::{NAMES, READING};
+use crate::cases::{NAMES, READ, READING, SCAN, SCAN_LEAVES};
 use crate::page::{thousands, Result};
 use crate::stores::{Fill, FILLS, SIZES};
 
@@ -10,6 +10,10 @@ pub const READING_MOST: f64 = 1.0;
 pub const CHANGING_MOST: f64 = 0.8;
 /// The most copies of its blocks that the read of a whole blob may take.
 pub const COPIES_MOST: f64 = 3.0;
+/// The most of that read's time that a scan in one asking may take.
+pub const SCAN_MOST: f64 = 1.3;
+/// The same for a scan in askings of 48 bytes.
+pub const SCAN_LEAVES_MOST: f64 = 3.0;
 /// The most by which the time per slot at 1,024 slots may exceed that at 64.
 pub const GROWTH_MOST: f64 = 1.25;
 
@@ -31,6 +35,8 @@ pub fn lines(results: &[Result]) -> String {
         text += &ratio_line(results, fill, "changing calls", changing, CHANGING_MOST);
     }
     text += &copies_line(results);
+    text += &scan_line(results, SCAN, "in one asking", SCAN_MOST);
+    text += &scan_line(results, SCAN_LEAVES, "in askings of 48 bytes", SCAN_LEAVES_MOST);
     text += &growth_line(results);
     text
 }
@@ -38,11 +44,7 @@ pub fn lines(results: &[Result]) -> String {
 fn ratio_line(results: &[Result], fill: Fill, what: &str, names: &[&str], most: f64) -> String {
     let mut missed = Vec::new();
     for name in names {
-        let ratio = |slots: &usize| (*slots, find(results, name, fill, *slots).ratio());
-        let over = SIZES.iter().map(ratio).filter(|(_, ratio)| *ratio > most);
-        let over: Vec<String> = over
-            .map(|(slots, ratio)| format!("{:.2} at {}", ratio, thousands(slots as u64)))
-            .collect();
+        let over = over(most, |slots| find(results, name, fill, slots).ratio());
         if !over.is_empty() {
             missed.push(format!("{}: {}", name, over.join(", ")));
         }
@@ -50,18 +52,28 @@ fn ratio_line(results: &[Result], fill: Fill, what: &str, names: &[&str], most: 
     row(&format!("{} take at most {:.1} of the reference's time", what, most), fill, &missed)
 }
 
+/// Where a number is above the most, and what it is there.
+fn over(most: f64, number: impl Fn(usize) -> f64) -> Vec<String> {
+    let numbers = SIZES.iter().map(|slots| (*slots, number(*slots)));
+    let above = numbers.filter(|(_, number)| *number > most);
+    above.map(|(slots, number)| format!("{:.2} at {}", number, thousands(slots as u64))).collect()
+}
+
 fn copies_line(results: &[Result]) -> String {
-    let mut missed = Vec::new();
-    for slots in SIZES {
-        let copies = find(results, "read, whole blob", Fill::Full, slots).pool_copies();
-        if copies > COPIES_MOST {
-            missed.push(format!("{:.1} at {}", copies, thousands(slots as u64)));
-        }
-    }
+    let copies = |slots| find(results, READ, Fill::Full, slots).pool_copies();
     row(
         &format!("a whole blob's read takes at most {} copies of its blocks", COPIES_MOST),
         Fill::Full,
-        &missed,
+        &over(COPIES_MOST, copies),
+    )
+}
+
+fn scan_line(results: &[Result], name: &str, how: &str, most: f64) -> String {
+    let time = |name, slots| find(results, name, Fill::Full, slots).times.proved;
+    row(
+        &format!("a scan {} takes at most {} of the time of a whole blob's read", how, most),
+        Fill::Full,
+        &over(most, |slots| time(name, slots) / time(READ, slots)),
     )
 }
 

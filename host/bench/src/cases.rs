@@ -23,11 +23,19 @@ pub struct Case {
     pub reference: Call,
 }
 
+/// A whole blob by one read; and by a head that is opened and then asked once, or
+/// again and again, for a leaf's bytes at a time.
+pub const READ: &str = "read, whole blob";
+pub const SCAN: &str = "scan, one asking";
+pub const SCAN_LEAVES: &str = "scan, 48 bytes at a time";
+
 /// Names of the cases in the order of the tables.
-pub const NAMES: [&str; 14] = [
+pub const NAMES: [&str; 16] = [
     "length",
-    "read, whole blob",
+    READ,
     "read, 48 bytes",
+    SCAN,
+    SCAN_LEAVES,
     "show, last leaf",
     "audit",
     "wipe",
@@ -42,7 +50,7 @@ pub const NAMES: [&str; 14] = [
 ];
 
 /// How many of them, the first, only read.
-pub const READING: usize = 5;
+pub const READING: usize = 7;
 
 /// Every case.
 pub fn all() -> Vec<Case> {
@@ -84,7 +92,7 @@ fn case(name: &'static str, fill: Fill, slots: usize) -> Case {
     let checks_one_blob = index < READING && name != "audit";
     let pool_bytes = BLOCK * if checks_one_blob { blocks(length) } else { slots };
     let lent = match name {
-        "read, whole blob" | "write, whole blob" => length,
+        READ | SCAN | SCAN_LEAVES | "write, whole blob" => length,
         "read, 48 bytes" | "write, 48 bytes" => LEAF,
         _ => 0,
     };
@@ -117,15 +125,31 @@ fn set_reading(case: &mut Case, root: u64, length: usize) {
     let middle = (length / LEAF / 2 * LEAF) as u64;
     match case.name {
         "length" => both!(case, |s, _out, side| side::length(&s.pool, &s.records, root).unwrap()),
-        "read, whole blob" => both!(case, |s, out, side| {
+        READ => both!(case, |s, out, side| {
             side::read(&s.pool, &s.records, root, 0, out).map_or(1, |_| 0)
         }),
         "read, 48 bytes" => both!(case, |s, out, side| {
             side::read(&s.pool, &s.records, root, middle, out).map_or(1, |_| 0)
         }),
+        SCAN => set_scan(case, root, length),
+        SCAN_LEAVES => set_scan(case, root, LEAF),
         "show, last leaf" => set_show(case, root, (length / LEAF - 1) as u64),
         _ => both!(case, |s, _out, side| side::audit(&s.pool, &s.records).unwrap()),
     }
+}
+
+/// A head, asked for so many bytes at a time until the output is full. The two
+/// sides hold it differently: with its pool, and as numbers.
+fn set_scan(case: &mut Case, root: u64, size: usize) {
+    case.proved = Box::new(move |s, out| {
+        let mut head = tjornsaki::Head::open(&s.pool, &s.records, root).unwrap();
+        out.chunks_mut(size).map(|piece| head.next(piece) as u64).sum()
+    });
+    case.reference = Box::new(move |s, out| {
+        let mut head = [0; 4];
+        reference::open_head(&s.pool, &s.records, root, &mut head).unwrap();
+        out.chunks_mut(size).map(|piece| reference::next(&s.pool, &mut head, piece)).sum()
+    });
 }
 
 /// The two sides answer differently: a slice, and where it lies.
