@@ -243,7 +243,7 @@ impl Player {
 
     /// The whole store, a line a slot: record, then block.
     fn hex(&mut self) {
-        let slots = self.pool.len().div_ceil(64).max(self.records.len().div_ceil(12));
+        let slots = self.pool.chunks(64).len().max(self.records.chunks(12).len());
         for slot in 0..slots {
             self.slot(slot);
         }
