@@ -7,7 +7,8 @@
 use std::fmt::{Display, Write};
 use std::io::Read;
 
-use reference::{audit, create, delete, length, read, resize, show, wipe, write, Refusal};
+use reference::{audit, create, delete, length, next, open_head};
+use reference::{read, resize, show, wipe, write, Refusal};
 
 /// "No slot" where a slot is a number.
 const FAR: u64 = u64::MAX;
@@ -55,7 +56,7 @@ impl Player {
     fn command(&mut self, name: &str, n: [u64; 5]) {
         match name {
             "n" | "w" | "l" | "i" | "v" | "k" | "p" | "q" => self.lay(name, n),
-            "L" | "R" | "F" | "S" | "A" | "B" | "C" | "E" => self.reading(name, n),
+            "L" | "R" | "F" | "S" | "P" | "A" | "B" | "C" | "E" => self.reading(name, n),
             "O" | "N" | "W" | "Z" | "D" | "Y" | "X" => self.changing(name, n),
             "H" => self.hex(),
             "T" => self.slot(n[0] as usize),
@@ -135,6 +136,7 @@ impl Player {
             "R" => self.read(n[0], n[1], n[2] as usize),
             "F" => self.find(n[0], n[1]),
             "S" => self.show(n[0], n[1]),
+            "P" => self.head(n[0], [n[1], n[2], n[3], n[4]]),
             "A" => self.audit(),
             "B" => {
                 self.read(n[0], FAR, 2);
@@ -146,6 +148,7 @@ impl Player {
                 self.read(n[0], 0, 1);
                 self.find(n[0], 0);
                 self.show(n[0], 0);
+                self.head(n[0], [1, 0, 0, 0]);
                 if name == "E" {
                     self.audit();
                 }
@@ -176,6 +179,21 @@ impl Player {
         let part = answer.map_or(&[][..], |(start, count)| &self.pool[start..start + count]);
         let part = bracketed(part);
         self.say(format!("show {root} {leaf}"), answer.map(|_| ""), &part);
+    }
+
+    /// A refused head is asked too.
+    fn head(&mut self, root: u64, sizes: [u64; 4]) {
+        let mut head = [0; 4];
+        let answer = open_head(&self.pool, &self.records, root, &mut head);
+        let mut pieces = String::new();
+        for size in sizes {
+            let mut out = vec![0xEE; size as usize];
+            let count = next(&self.pool, &mut head, &mut out);
+            pieces += &format!(" {count}{}", bracketed(&out));
+        }
+        let [a, b, c, d] = sizes;
+        let call = format!("head {root} {a} {b} {c} {d}");
+        self.say(call, answer.map(|n| format!(" {n}")), &pieces);
     }
 
     fn audit(&mut self) {
