@@ -1,12 +1,13 @@
 //! The bench: one store held twice, once by the library and once by the
-//! reference. After every call both must be alike in every byte.
+//! reference, and a head. After every call both must be alike in every byte,
+//! and in the head's numbers.
 
 use crate::call::Call;
-use crate::guarded::{Guarded, GuardedAnswer};
+use crate::guarded::{Guarded, GuardedNumbers};
 use crate::layout::{exchange, View, BLOCK, RECORD};
 use crate::sides::{by_crate, by_library, by_reference, Lent};
 use std::fmt;
-use tjornsaki::raw::Answer;
+use tjornsaki::raw::{self, Answer, HeadNumbers};
 
 /// Which of the two lent slices.
 #[derive(Clone, Copy, Debug, PartialEq, Eq)]
@@ -20,7 +21,8 @@ pub enum Area {
 pub enum Step {
     Call(Call),
     /// A call over slices of these lengths: the store's bytes, cut or with
-    /// other bytes after them. The store itself stays as it is.
+    /// other bytes after them. The store itself stays as it is; the head goes
+    /// along.
     CallOverLengths {
         call: Call,
         pool: usize,
@@ -37,6 +39,8 @@ pub enum Step {
         one: usize,
         other: usize,
     },
+    /// The numbers of the head become these.
+    ForgeHead(HeadNumbers),
     /// Remembers the store.
     Keep,
     /// Goes back to the store last remembered.
@@ -56,6 +60,7 @@ impl fmt::Display for Step {
                 bytes.iter().try_for_each(|byte| write!(out, " {byte:02X}"))
             }
             Step::ExchangeSlots { one, other } => write!(out, "slots {one} and {other} exchanged"),
+            Step::ForgeHead(head) => write!(out, "the head is {}", shown(head)),
             Step::Keep => write!(out, "the store is kept"),
             Step::GoBack => write!(out, "back to the store kept last"),
         }
@@ -64,6 +69,8 @@ impl fmt::Display for Step {
 
 /// What stands in lent output before a call.
 const UNREAD: u8 = 0x77;
+/// What stands in a lent answer before a call.
+const UNANSWERED: u64 = 0x7777_7777_7777_7777;
 /// What follows the store's bytes where a call is lent longer slices.
 const BEYOND: u8 = 0x11;
 
@@ -73,6 +80,9 @@ pub struct Bench {
     pool: Vec<u8>,
     records: Vec<u8>,
     kept: Option<(Vec<u8>, Vec<u8>)>,
+    /// The numbers of the head that is asked. It stays open while the store
+    /// changes under it.
+    pub head: HeadNumbers,
     /// How many calls were made.
     pub calls: u64,
     /// The output of the last call.
@@ -92,6 +102,7 @@ impl Bench {
             pool,
             records,
             kept: None,
+            head: [0; 4],
             calls: 0,
             output: Vec::new(),
         }
@@ -108,10 +119,14 @@ impl Bench {
             Step::Call(call) => return self.call(call).map(Some),
             Step::CallOverLengths { call, pool, records } => {
                 self.calls += 1;
-                return self.with_lengths(*pool, *records).call(call).map(Some);
+                let mut other = self.with_lengths(*pool, *records);
+                let answer = other.call(call);
+                self.head = other.head;
+                return answer.map(Some);
             }
             Step::Patch { area, at, bytes } => self.patch(*area, *at, bytes),
             Step::ExchangeSlots { one, other } => self.exchange(*one, *other),
+            Step::ForgeHead(head) => self.head = *head,
             Step::Keep => self.kept = Some((self.pool.clone(), self.records.clone())),
             Step::GoBack => {
                 if let Some((pool, records)) = self.kept.clone() {
@@ -138,6 +153,7 @@ impl Bench {
         };
         let mut bench = Bench::over(fitted(&self.pool, pool), fitted(&self.records, records));
         bench.calls = self.calls;
+        bench.head = self.head;
         bench
     }
 
@@ -166,31 +182,51 @@ impl Bench {
         self.calls += 1;
         let data = call.data();
         let library = self.call_library(call, &data)?;
-        self.output = vec![UNREAD; call.output_size()];
+        self.output = vec![UNREAD; call.output_size(self.view().slots())];
         let mut answer = [0; 8];
         let lent = Lent {
             pool: &mut self.pool,
             records: &mut self.records,
+            head: &mut self.head,
             out: &mut self.output,
             data: &data,
         };
         by_reference(call, lent, &mut answer);
-        alike_in_numbers(&library.answer, &answer)?;
+        alike_in_numbers("answers", &library.answer, &answer)?;
+        alike_in_numbers("leaves the head", &library.head, &self.head)?;
         alike("pool", self.library_pool.inside(), &self.pool)?;
         alike("records", self.library_records.inside(), &self.records)?;
         alike("output", library.out.inside(), &self.output)?;
+        if let (Call::Scan { root, .. }, [0, _, length, ..]) = (call, answer) {
+            self.pieces_are_one_read(*root, length)?;
+        }
         Ok(answer)
+    }
+
+    /// "the pieces joined are what one read gives", which the library makes
+    /// here. The pieces are the output of the last call.
+    fn pieces_are_one_read(&self, root: u64, length: u64) -> Result<(), String> {
+        let (pool, records) = (self.library_pool.inside(), self.library_records.inside());
+        let mut one_read = vec![UNREAD; length as usize];
+        let mut answer = [UNANSWERED; 8];
+        raw::read(pool, records, root, 0, &mut one_read, &mut answer);
+        if answer[0] == 0 && self.output.get(..one_read.len()) == Some(&one_read) {
+            return Ok(());
+        }
+        Err("the pieces joined are not what one read gives".to_string())
     }
 
     /// The library's side, with guards around all that it is lent. Every other
     /// call goes through the Rust crate.
     fn call_library(&mut self, call: &Call, data: &[u8]) -> Result<Left, String> {
-        let mut out = Guarded::new(&vec![UNREAD; call.output_size()]);
+        let mut out = Guarded::new(&vec![UNREAD; call.output_size(self.view().slots())]);
         let lent_data = Guarded::new(data);
-        let mut answer = GuardedAnswer::new();
+        let mut head = GuardedNumbers::new(self.head);
+        let mut answer = GuardedNumbers::new([UNANSWERED; 8]);
         let lent = Lent {
             pool: self.library_pool.inside_mut(),
             records: self.library_records.inside_mut(),
+            head: head.inside_mut(),
             out: out.inside_mut(),
             data: lent_data.inside(),
         };
@@ -200,33 +236,35 @@ impl Bench {
         }
         let buffers = [&self.library_pool, &self.library_records, &out, &lent_data];
         let all_intact = buffers.iter().all(|buffer| buffer.is_intact());
-        if !all_intact || !answer.is_intact() || lent_data.inside() != data {
+        let numbers_intact = answer.is_intact() && head.is_intact();
+        if !all_intact || !numbers_intact || lent_data.inside() != data {
             return Err("the library wrote outside what it was lent".to_string());
         }
-        Ok(Left { answer: answer.inside(), out })
+        Ok(Left { answer: answer.inside(), head: head.inside(), out })
     }
 }
 
 /// What a call of the library left beside the store.
 struct Left {
     answer: Answer,
+    head: HeadNumbers,
     out: Guarded,
 }
 
-fn alike_in_numbers(library: &Answer, reference: &Answer) -> Result<(), String> {
+fn alike_in_numbers(does: &str, library: &[u64], reference: &[u64]) -> Result<(), String> {
     if library == reference {
         return Ok(());
     }
-    Err(format!("the library answers {}, the reference {}", shown(library), shown(reference)))
+    Err(format!("the library {does} {}, the reference {}", shown(library), shown(reference)))
 }
 
-/// An answer in short: 2^64 - 1 is written as a line.
-fn shown(answer: &Answer) -> String {
+/// Numbers in short: 2^64 - 1 is written as a line.
+fn shown(numbers: &[u64]) -> String {
     let word = |number: &u64| match *number {
         u64::MAX => "-".to_string(),
         number => number.to_string(),
     };
-    format!("[{}]", answer.iter().map(word).collect::<Vec<_>>().join(" "))
+    format!("[{}]", numbers.iter().map(word).collect::<Vec<_>>().join(" "))
 }
 
 fn alike(what: &str, library: &[u8], reference: &[u8]) -> Result<(), String> {

@@ -10,12 +10,33 @@ use tjornsaki::raw::Answer;
 pub struct Book {
     slots: u64,
     blobs: BTreeMap<u64, Vec<u8>>,
+    head: Option<BookedHead>,
+}
+
+/// A head by the bytes that its blob had when it was opened.
+struct BookedHead {
+    root: u64,
+    bytes: Vec<u8>,
+    place: usize,
+    /// Whether its blob was changed since then: what it hands out is not said.
+    is_stale: bool,
+}
+
+impl BookedHead {
+    /// Goes on by what is asked for or remains; whether so many bytes, and
+    /// these, were handed out.
+    fn goes_on(&mut self, size: usize, handed: u64, output: &[u8]) -> bool {
+        let next = &self.bytes[self.place..];
+        let count = size.min(next.len());
+        self.place += count;
+        handed == count as u64 && (self.is_stale || output.starts_with(&next[..count]))
+    }
 }
 
 impl Book {
     /// The book after a wipe.
     pub fn new(slots: usize) -> Book {
-        Book { slots: slots as u64, blobs: BTreeMap::new() }
+        Book { slots: slots as u64, blobs: BTreeMap::new(), head: None }
     }
 
     /// "the sum, over blobs alive, of the block total for the length last
@@ -34,8 +55,9 @@ impl Book {
         let free = self.slots - self.live_slots();
         match call {
             Call::Create if free == 0 => 11,
-            Call::Wipe | Call::Create | Call::Audit => 0,
+            Call::Wipe | Call::Create | Call::Audit | Call::Next { .. } => 0,
             Call::Length { root } | Call::Delete { root } => if_not(is_named(root), 3),
+            Call::OpenHead { root } | Call::Scan { root, .. } => if_not(is_named(root), 3),
             Call::Read { root, .. } | Call::Write { root, .. } if !is_named(root) => 3,
             Call::Resize { root, .. } | Call::Show { root, .. } if !is_named(root) => 3,
             Call::Read { root, offset, size } | Call::Write { root, offset, size, .. } => {
@@ -46,8 +68,8 @@ impl Book {
                 if_not(blocks_of(*length).saturating_sub(now) <= free, 11)
             }
             Call::Show { root, leaf } => {
-                let leaves = (self.blobs[root].len() + 47) / 48;
-                if_not(*leaf < leaves.max(1) as u64, 10)
+                let leaves = rounded_up(self.blobs[root].len() as u64, 48);
+                if_not(*leaf < leaves.max(1), 10)
             }
         }
     }
@@ -64,10 +86,35 @@ impl Book {
         if answer[0] != expected {
             return Err(format!("{call:?} answers {}, not {expected}", answer[0]));
         }
+        self.enter_head(call, expected == 0);
         if expected == 0 && !self.done(call, answer, output, after) {
             return Err(format!("{call:?} answers a wrong value or wrong bytes"));
         }
         Ok(())
+    }
+
+    /// The head after a call: opened or refused, or with its blob changed.
+    fn enter_head(&mut self, call: &Call, is_done: bool) {
+        match *call {
+            Call::OpenHead { root } | Call::Scan { root, .. } => {
+                let open = |bytes| BookedHead { root, bytes, place: 0, is_stale: false };
+                self.head = self.blobs.get(&root).cloned().map(open);
+            }
+            Call::Write { root, .. } | Call::Resize { root, .. } | Call::Delete { root } => {
+                if let Some(head) = &mut self.head {
+                    head.is_stale |= is_done && head.root == root;
+                }
+            }
+            _ => {}
+        }
+    }
+
+    /// Whether the head hands out these bytes when it is asked for so many.
+    fn head_goes_on(&mut self, size: usize, handed: u64, output: &[u8]) -> bool {
+        match &mut self.head {
+            Some(head) => head.goes_on(size, handed, output),
+            None => handed == 0,
+        }
     }
 
     /// Enters a call that was done; whether its value and bytes are right.
@@ -75,7 +122,16 @@ impl Book {
         match *call {
             Call::Wipe => self.blobs.clear(),
             Call::Create => return self.blobs.insert(answer[2], Vec::new()).is_none(),
-            Call::Length { root } => return answer[2] == self.blobs[&root].len() as u64,
+            Call::Length { root } | Call::OpenHead { root } => {
+                return answer[2] == self.blobs[&root].len() as u64
+            }
+            Call::Next { size } => return self.head_goes_on(size, answer[2], output),
+            Call::Scan { root, size } => {
+                let length = self.blobs[&root].len();
+                let pieces = rounded_up(length as u64, size as u64);
+                return answer[2..4] == [length as u64, pieces]
+                    && self.head_goes_on(length, answer[2], output);
+            }
             Call::Audit => return answer[2] == self.live_slots(),
             Call::Read { root, offset, .. } => {
                 return self.blobs[&root][offset as usize..].starts_with(output)
@@ -97,6 +153,10 @@ impl Book {
         }
         true
     }
+}
+
+fn rounded_up(number: u64, by: u64) -> u64 {
+    number / by + u64::from(number % by != 0)
 }
 
 fn if_not(holds: bool, number: u64) -> u64 {

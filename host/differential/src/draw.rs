@@ -4,9 +4,10 @@
 use crate::call::Call;
 use crate::chance::Chance;
 use crate::layout::{blocks_of, View};
+use tjornsaki::raw::HeadNumbers;
 
 /// How likely each kind of call is, in the order of `KINDS`.
-const WEIGHTS: [u64; 9] = [1, 24, 14, 30, 50, 70, 16, 20, 14];
+const WEIGHTS: [u64; 12] = [1, 24, 14, 30, 50, 70, 16, 20, 14, 16, 40, 10];
 
 /// Leaf counts about which the shape of a blob changes.
 const LEAF_EDGES: [u64; 16] =
@@ -23,7 +24,7 @@ pub fn draw_slots(chance: &mut Chance) -> usize {
     }
 }
 
-pub fn draw_call(chance: &mut Chance, view: View) -> Call {
+pub fn draw_call(chance: &mut Chance, view: View, head: &HeadNumbers) -> Call {
     let root = draw_root(chance, view);
     if view.roots().is_empty() && chance.one_in(2) {
         return Call::Create;
@@ -43,7 +44,11 @@ pub fn draw_call(chance: &mut Chance, view: View) -> Call {
         5 => Call::Resize { root, length: draw_length(chance, view, root) },
         6 => Call::Delete { root },
         7 => Call::Show { root, leaf: draw_leaf(chance, length_now(view, root)) },
-        _ => Call::Audit,
+        8 => Call::Audit,
+        9 => Call::OpenHead { root },
+        10 if has_more(head) || chance.one_in(4) => Call::Next { size: draw_asking(chance, head) },
+        10 => Call::OpenHead { root },
+        _ => Call::Scan { root, size: draw_piece(chance, length_now(view, root)) },
     }
 }
 
@@ -134,4 +139,74 @@ fn draw_leaf(chance: &mut Chance, length: u64) -> u64 {
         2 => chance.pick(&[u64::MAX, 1 << 32, leaves + 1]),
         _ => chance.below(leaves),
     }
+}
+
+/// Whether the head has bytes to hand out.
+fn has_more(head: &HeadNumbers) -> bool {
+    head[3] == 1 && head[1] < head[2]
+}
+
+/// So many bytes are asked for at most where a head has more: several times
+/// what the largest blob has.
+const FAR: u64 = 100_000;
+
+/// How many bytes a head is asked for: nothing, a byte, a leaf, a row, what
+/// remains and about it, and far more.
+pub fn draw_asking(chance: &mut Chance, head: &HeadNumbers) -> usize {
+    let [_, place, length, _] = *head;
+    let rest = length.saturating_sub(place).min(10_000);
+    let size = match chance.below(20) {
+        0 => 0,
+        1 => 1,
+        2 => 48,
+        3 => 48 - place % 48,
+        4 => 576,
+        5 => 6_912,
+        6 => rest,
+        7 => rest.saturating_sub(1),
+        8 => rest + 1 + chance.below(100),
+        9 => FAR,
+        10..=12 => chance.below(rest + 1),
+        _ => chance.below(rest.min(200) + 1),
+    };
+    size as usize
+}
+
+/// The piece of a scan, not so small that it takes thousands of them.
+fn draw_piece(chance: &mut Chance, length: u64) -> usize {
+    let size = match chance.below(12) {
+        0 => length,
+        1 => length + 1,
+        2 => FAR,
+        3..=7 => chance.below(200),
+        _ => chance.pick(&[1, 7, 47, 48, 49, 96, 575, 576, 577, 6_912, 6_913]),
+    };
+    size.max(length / 500).max(1) as usize
+}
+
+/// Numbers at which a place or a length may go wrong.
+const EDGES: [u64; 12] =
+    [0, 1, 47, 48, 576, 577, 6_912, 6_913, 1 << 32, u64::MAX - 48, u64::MAX - 1, u64::MAX];
+
+/// Numbers for a head that no opening made.
+pub fn draw_head(chance: &mut Chance, view: View) -> HeadNumbers {
+    let root = match chance.below(3) {
+        0 => chance.below(view.slots() as u64 + 1),
+        _ => draw_root(chance, view),
+    };
+    let length = match chance.below(4) {
+        0 => length_now(view, root),
+        1 => chance.below(10_000),
+        2 => chance.number(),
+        _ => chance.pick(&EDGES),
+    };
+    let place = match chance.below(5) {
+        0 => 0,
+        1 => chance.below(length),
+        2 => length.saturating_sub(chance.below(600)),
+        3 => chance.number(),
+        _ => chance.pick(&EDGES),
+    };
+    let open = chance.pick(&[1, 1, 1, 1, 1, 1, 1, 1, 0, 2, u64::MAX, 1 << 32]);
+    [root, place, length, open]
 }

@@ -1,7 +1,5 @@
 //! Buffers with guard bytes around them.
 
-use tjornsaki::raw::Answer;
-
 /// Odd, so that a lent part starts at an odd address.
 const GUARD_SIZE: usize = 61;
 const GUARD_BYTE: u8 = 0xC3;
@@ -38,32 +36,28 @@ impl Guarded {
 
 const GUARD_NUMBER: u64 = 0xC3C3_C3C3_C3C3_C3C3;
 
-/// The eight numbers of an answer, with guards before and after them.
-pub struct GuardedAnswer {
-    numbers: [Answer; 3],
+/// The numbers of an answer or of a head, with guards before and after them.
+pub struct GuardedNumbers<const COUNT: usize> {
+    numbers: [[u64; COUNT]; 3],
 }
 
-impl GuardedAnswer {
-    pub fn new() -> GuardedAnswer {
-        GuardedAnswer { numbers: [[GUARD_NUMBER; 8]; 3] }
+impl<const COUNT: usize> GuardedNumbers<COUNT> {
+    pub fn new(inside: [u64; COUNT]) -> GuardedNumbers<COUNT> {
+        let guard = [GUARD_NUMBER; COUNT];
+        GuardedNumbers { numbers: [guard, inside, guard] }
     }
 
-    pub fn inside(&self) -> Answer {
+    pub fn inside(&self) -> [u64; COUNT] {
         self.numbers[1]
     }
 
-    pub fn inside_mut(&mut self) -> &mut Answer {
+    pub fn inside_mut(&mut self) -> &mut [u64; COUNT] {
         &mut self.numbers[1]
     }
 
+    /// Whether no guard number has changed.
     pub fn is_intact(&self) -> bool {
-        [self.numbers[0], self.numbers[2]] == [[GUARD_NUMBER; 8]; 2]
-    }
-}
-
-impl Default for GuardedAnswer {
-    fn default() -> GuardedAnswer {
-        GuardedAnswer::new()
+        [self.numbers[0], self.numbers[2]] == [[GUARD_NUMBER; COUNT]; 2]
     }
 }
 
@@ -86,11 +80,14 @@ mod tests {
     }
 
     #[test]
-    fn a_changed_guard_of_an_answer_is_seen() {
-        let mut answer = GuardedAnswer::new();
-        answer.inside_mut().fill(0);
-        assert!(answer.is_intact());
-        answer.numbers[2][0] = 0;
-        assert!(!answer.is_intact());
+    fn a_changed_guard_of_numbers_is_seen() {
+        for (row, place) in [(0, 0), (0, 3), (2, 0), (2, 3)] {
+            let mut head = GuardedNumbers::new([1, 2, 3, 4]);
+            assert_eq!(head.inside(), [1, 2, 3, 4]);
+            head.inside_mut().fill(0);
+            assert!(head.is_intact());
+            head.numbers[row][place] = 0;
+            assert!(!head.is_intact());
+        }
     }
 }

@@ -1,16 +1,16 @@
 //! The third demand over histories by chance. A history of calls from a wipe
 //! has its moments. The records of one moment are true; the pool is filled
 //! with blocks of the history, of any slot and any time, or zeros. Then length,
-//! read and show answer as they did at that moment exactly if every block of
-//! the blob is as it was, and otherwise refuse with 4 to 7, naming the first
-//! differing block in walk order. The audit passes exactly if the whole pool
-//! is as it was.
+//! read, show and a scan answer as they did at that moment exactly if every
+//! block of the blob is as it was, and otherwise refuse with 4 to 7, naming the
+//! first differing block in walk order. The audit passes exactly if the whole
+//! pool is as it was.
 
 use crate::bench::{Area, Bench, Step};
 use crate::book::Book;
 use crate::call::Call;
 use crate::chance::Chance;
-use crate::draw::{draw_call, draw_slots};
+use crate::draw::draw_slots;
 use crate::hostile::OldBlock;
 use crate::layout::{View, BLOCK};
 use crate::run::{Finding, Run};
@@ -69,7 +69,7 @@ fn play_history(run: &mut Run, slots: usize) -> Result<History, Finding> {
         if run.chance.one_in(30) || run.bench.calls == 1 {
             history.moments.push(Moment::of(run.bench.view(), run.steps().len()));
         }
-        let call = match draw_call(&mut run.chance, run.bench.view()) {
+        let call = match run.draw_call() {
             Call::Wipe => Call::Create,
             call => call,
         };
@@ -148,12 +148,13 @@ fn try_store(run: &mut Run, history: &History, then: &Moment, pool: &[u8]) -> Re
     Ok(())
 }
 
-fn calls_of_demand(chance: &mut Chance, root: u64) -> [Call; 3] {
+fn calls_of_demand(chance: &mut Chance, root: u64) -> [Call; 4] {
     let offset = chance.pick(&[0, 0, 1, 47, 48, 100, 600]);
     [
         Call::Length { root },
         Call::Read { root, offset, size: chance.pick(&[0, 1, 10, 49, 500]) },
         Call::Show { root, leaf: chance.pick(&[0, 0, 1, 2, 11, 12]) },
+        Call::Scan { root, size: chance.pick(&[100, 48, 577, 50_000]) },
     ]
 }
 
@@ -192,9 +193,8 @@ fn expect(call: &Call, then: &Moment, pool: &[u8]) -> Expected {
     let view = then.view();
     let differs = |slot: &usize| view.block(*slot) != &pool[slot * BLOCK..(slot + 1) * BLOCK];
     let walked: Vec<usize> = match call {
-        Call::Length { root } | Call::Read { root, .. } | Call::Show { root, .. } => {
-            view.blob(*root as usize)
-        }
+        Call::Length { root } | Call::Read { root, .. } => view.blob(*root as usize),
+        Call::Show { root, .. } | Call::Scan { root, .. } => view.blob(*root as usize),
         _ => view.roots().into_iter().flat_map(|root| view.blob(root)).collect(),
     };
     if let Some(slot) = walked.into_iter().find(differs) {

@@ -4,7 +4,9 @@
 use crate::bench::{Area, Step};
 use crate::call::Call;
 use crate::chance::Chance;
+use crate::draw::{draw_asking, draw_head};
 use crate::layout::{View, BLOCK, FREE, PART, PAYLOAD, RECORD, ROOT};
+use tjornsaki::raw::HeadNumbers;
 
 /// A block that lay in this slot at some time.
 #[derive(Clone, Copy)]
@@ -22,7 +24,7 @@ pub struct Scene<'a> {
 type Raid = fn(&mut Chance, &Scene) -> Option<Vec<Step>>;
 
 /// All ways, by name.
-pub const RAIDS: [(&str, Raid); 21] = [
+pub const RAIDS: [(&str, Raid); 23] = [
     ("a bit of the pool flipped", flip_pool_bit),
     ("a bit of the records flipped", flip_record_bit),
     ("a block copied to another slot", copy_block),
@@ -44,6 +46,8 @@ pub const RAIDS: [(&str, Raid); 21] = [
     ("versions at the end (sound)", worn_versions),
     ("slots exchanged (sound)", exchange_slots),
     ("a row that reads as bytes (sound)", row_reads_as_bytes),
+    ("a forged head (sound)", forge_head),
+    ("a store spoilt under a head", spoil_under_head),
 ];
 
 fn in_block(slot: usize, at: usize, bytes: &[u8]) -> Step {
@@ -230,4 +234,32 @@ fn row_reads_as_bytes(chance: &mut Chance, scene: &Scene) -> Option<Vec<Step>> {
         in_block(row[0], PAYLOAD, &[row[0] as u8, 0]),
         Step::Call(cut),
     ])
+}
+
+fn ask(chance: &mut Chance, head: &HeadNumbers) -> Step {
+    Step::Call(Call::Next { size: draw_asking(chance, head) })
+}
+
+/// A head that no opening made, and askings.
+fn forge_head(chance: &mut Chance, scene: &Scene) -> Option<Vec<Step>> {
+    let head = draw_head(chance, scene.view);
+    let mut steps = vec![Step::ForgeHead(head)];
+    steps.extend((0..3).map(|_| ask(chance, &head)));
+    Some(steps)
+}
+
+/// A head that is opened and asked before a row or a height changes, and goes
+/// on after it.
+fn spoil_under_head(chance: &mut Chance, scene: &Scene) -> Option<Vec<Step>> {
+    let root = chance.pick_any(&scene.view.roots())? as u64;
+    let ways: [Raid; 6] =
+        [copy_block, zero_block, share_child, link_to_self_or_above, link_outside, wrong_height];
+    let way = chance.pick(&ways);
+    let spoiling = way(chance, scene)?;
+    let length = reference::length(scene.view.pool, scene.view.records, root).unwrap_or(0);
+    let head = [root, 0, length, 1];
+    let mut steps = vec![Step::Call(Call::OpenHead { root }), ask(chance, &head)];
+    steps.extend(spoiling);
+    steps.extend((0..3).map(|_| ask(chance, &head)));
+    Some(steps)
 }

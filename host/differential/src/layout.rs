@@ -4,6 +4,8 @@ pub const BLOCK: usize = 64;
 pub const RECORD: usize = 12;
 /// Where a block's payload starts.
 pub const PAYLOAD: usize = 16;
+/// How many bytes a leaf has room for.
+pub const LEAF: usize = 48;
 
 pub const FREE: u8 = 0;
 pub const PART: u8 = 1;

@@ -1,8 +1,8 @@
 //! Compares the proved library with the reference: the same calls over the same
 //! bytes, sound and spoilt, and after every call every answer and every byte of
-//! pool, records and output.
+//! pool, records and output, and every number of the head.
 //!
-//! * `call`, `bench`, `sides`, `guarded`: making a call on both sides
+//! * `call`, `bench`, `sides`, `heads`, `guarded`: making a call on both sides
 //! * `draw`, `hostile`, `run`: runs by chance
 //! * `book`, `history`: histories of calls, and the third demand over them
 //! * `reduce`: a short run for a difference
@@ -17,6 +17,7 @@ pub mod campaign;
 pub mod chance;
 pub mod draw;
 pub mod guarded;
+pub mod heads;
 pub mod history;
 pub mod hostile;
 pub mod layout;

@@ -4,6 +4,7 @@ use crate::bench::{Bench, Step};
 use crate::call::Call;
 use crate::run::Finding;
 use std::time::{Duration, Instant};
+use tjornsaki::raw::HeadNumbers;
 
 /// Leaves steps out and makes numbers smaller for as long as the two sides
 /// still differ, at most this long.
@@ -76,6 +77,11 @@ fn make_smaller(best: &mut Finding, until: Instant) {
 fn smaller(step: &Step) -> Vec<Step> {
     match step {
         Step::Call(call) => smaller_calls(call).into_iter().map(Step::Call).collect(),
+        Step::CallOverLengths { call, pool, records } => {
+            let over = |call| Step::CallOverLengths { call, pool: *pool, records: *records };
+            smaller_calls(call).into_iter().map(over).collect()
+        }
+        Step::ForgeHead(head) => smaller_heads(*head).map(Step::ForgeHead).collect(),
         Step::Patch { area, at, bytes } if bytes.len() > 1 => {
             let (first, second) = bytes.split_at(bytes.len() / 2);
             let half = |at, bytes: &[u8]| Step::Patch { area: *area, at, bytes: bytes.to_vec() };
@@ -98,8 +104,27 @@ fn smaller_calls(call: &Call) -> Vec<Call> {
             shrunk(length, 0).map(|(length, _)| Call::Resize { root, length }).collect()
         }
         Call::Show { root, leaf } if leaf > 0 => vec![Call::Show { root, leaf: 0 }],
+        Call::Next { size } => {
+            below(size as u64).map(|size| Call::Next { size: size as usize }).collect()
+        }
+        Call::Scan { root, size } => {
+            let fewer = below(size as u64).filter(|size| *size > 0);
+            fewer.map(|size| Call::Scan { root, size: size as usize }).collect()
+        }
         _ => Vec::new(),
     }
+}
+
+/// One of the four numbers made smaller.
+fn smaller_heads(head: HeadNumbers) -> impl Iterator<Item = HeadNumbers> {
+    let one_smaller = move |place: usize| {
+        below(head[place]).map(move |less| {
+            let mut smaller = head;
+            smaller[place] = less;
+            smaller
+        })
+    };
+    (0..head.len()).flat_map(one_smaller)
 }
 
 /// One of the two numbers made smaller.

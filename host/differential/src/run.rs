@@ -3,7 +3,7 @@
 use crate::bench::{Bench, Step};
 use crate::call::Call;
 use crate::chance::Chance;
-use crate::draw::{draw_call, draw_slots};
+use crate::draw::{draw_asking, draw_call, draw_head, draw_slots};
 use crate::hostile::{OldBlock, Scene, RAIDS};
 use crate::layout::{BLOCK, RECORD};
 use crate::tally::Tally;
@@ -54,6 +54,7 @@ pub fn play(seed: u64, tally: &mut Tally) -> Result<(), Finding> {
         run.some_calls(24)?;
         match run.chance.below(8) {
             0 => run.calls_over_lengths()?,
+            1 => run.askings_over_lengths()?,
             _ => run.raid()?,
         }
     }
@@ -69,6 +70,8 @@ impl<'a> Run<'a> {
 
     pub fn step(&mut self, step: Step) -> Result<Option<Answer>, Finding> {
         let height = self.height_of_resized(&step);
+        let head = self.bench.head;
+        let height_of_head = self.height_in(head[0]);
         self.steps.push(step);
         let step = &self.steps[self.steps.len() - 1];
         let answer = match self.bench.step(step) {
@@ -79,6 +82,12 @@ impl<'a> Run<'a> {
             (step, &answer)
         {
             self.tally.count_answer(call, answer);
+            self.tally.count_asking(call, &head);
+        }
+        if let (Step::Call(Call::Next { .. }), Some([_, _, handed, ..])) = (step, answer) {
+            if handed > 0 {
+                self.tally.count_handed_out(height_of_head);
+            }
         }
         if let (Some(before), Some([0, ..])) = (height, answer) {
             let after = self.height_of_resized(step).unwrap_or(before);
@@ -89,13 +98,16 @@ impl<'a> Run<'a> {
 
     /// The height that the block of the root to be resized has.
     fn height_of_resized(&self, step: &Step) -> Option<u8> {
-        let view = self.bench.view();
         match step {
-            Step::Call(Call::Resize { root, .. }) if *root < view.slots() as u64 => {
-                Some(view.height(*root as usize))
-            }
+            Step::Call(Call::Resize { root, .. }) => self.height_in(*root),
             _ => None,
         }
+    }
+
+    /// The height that the block in this slot has, if there is such a slot.
+    fn height_in(&self, slot: u64) -> Option<u8> {
+        let view = self.bench.view();
+        (slot < view.slots() as u64).then(|| view.height(slot as usize))
     }
 
     pub fn steps(&self) -> &[Step] {
@@ -110,10 +122,14 @@ impl<'a> Run<'a> {
     fn some_calls(&mut self, most: u64) -> Result<(), Finding> {
         for _ in 0..1 + self.chance.below(most) {
             self.remember_a_block();
-            let call = draw_call(&mut self.chance, self.bench.view());
+            let call = self.draw_call();
             self.step(Step::Call(call))?;
         }
         Ok(())
+    }
+
+    pub fn draw_call(&mut self) -> Call {
+        draw_call(&mut self.chance, self.bench.view(), &self.bench.head)
     }
 
     /// Keeps a block of the present store, to bring it back later.
@@ -159,9 +175,26 @@ impl<'a> Run<'a> {
     /// Calls over slices that do not fit, or that fit a smaller store.
     fn calls_over_lengths(&mut self) -> Result<(), Finding> {
         for _ in 0..4 {
-            let call = draw_call(&mut self.chance, self.bench.view());
+            let call = self.draw_call();
             let (pool, records) = self.draw_lengths();
             self.step(Step::CallOverLengths { call, pool, records })?;
+        }
+        Ok(())
+    }
+
+    /// A head, opened or forged, is asked over pools of any length.
+    fn askings_over_lengths(&mut self) -> Result<(), Finding> {
+        let view = self.bench.view();
+        let opening = match self.chance.pick_any(&view.roots()) {
+            Some(root) if self.chance.one_in(2) => Step::Call(Call::OpenHead { root: root as u64 }),
+            _ => Step::ForgeHead(draw_head(&mut self.chance, view)),
+        };
+        self.step(opening)?;
+        for _ in 0..4 {
+            let size = draw_asking(&mut self.chance, &self.bench.head);
+            let pool = self.chance.place((self.slots + 2) * BLOCK);
+            let call = Call::Next { size };
+            self.step(Step::CallOverLengths { call, pool, records: 0 })?;
         }
         Ok(())
     }

@@ -2,19 +2,21 @@
 //! through its Rust crate, and by the reference.
 
 use crate::call::Call;
-use tjornsaki::raw::{self, Answer, NO_SLOT};
+use crate::heads::{self, ask_to_the_end};
+use tjornsaki::raw::{self, Answer, HeadNumbers, NO_SLOT};
 
 /// What a call is lent.
 pub struct Lent<'a> {
     pub pool: &'a mut [u8],
     pub records: &'a mut [u8],
+    pub head: &'a mut HeadNumbers,
     pub out: &'a mut [u8],
     pub data: &'a [u8],
 }
 
 /// The C functions themselves.
 pub fn by_library(call: &Call, lent: Lent, answer: &mut Answer) {
-    let Lent { pool, records, out, data } = lent;
+    let Lent { pool, records, head, out, data } = lent;
     match *call {
         Call::Wipe => raw::wipe(pool, records, answer),
         Call::Create => raw::create(pool, records, answer),
@@ -25,14 +27,26 @@ pub fn by_library(call: &Call, lent: Lent, answer: &mut Answer) {
         Call::Delete { root } => raw::delete(pool, records, root, answer),
         Call::Show { root, leaf } => raw::show(pool, records, root, leaf, answer),
         Call::Audit => raw::audit(pool, records, answer),
+        Call::OpenHead { root } => raw::open_head(pool, records, root, head, answer),
+        Call::Next { .. } => raw::next(pool, head, out, answer),
+        Call::Scan { root, size } => {
+            raw::open_head(pool, records, root, head, answer);
+            let opened = *answer;
+            let askings = ask_to_the_end(out, size, |piece| {
+                raw::next(pool, head, piece, answer);
+                answer[2]
+            });
+            *answer = opened;
+            answer[3] = askings;
+        }
     }
 }
 
-/// The nine calls of a crate, each with its two values. The two crates have
-/// functions of the same names; only what a shown leaf is differs.
+/// The calls of a crate, each with its two values. The two crates have
+/// functions of the same names; only what a shown leaf and a head are differs.
 macro_rules! two_values {
-    ($store:ident, $call:expr, $lent:expr, $shown:expr) => {{
-        let Lent { pool, records, out, data } = $lent;
+    ($store:ident, $call:expr, $lent:expr, $shown:expr, $heads:ident) => {{
+        let Lent { pool, records, head, out, data } = $lent;
         match *$call {
             Call::Wipe => $store::wipe(pool, records).map(no_value),
             Call::Create => $store::create(pool, records).map(one_value),
@@ -51,18 +65,25 @@ macro_rules! two_values {
                 $store::show(pool, records, root, leaf).map(|part| $shown(&*pool, part))
             }
             Call::Audit => $store::audit(pool, records).map(one_value),
+            Call::OpenHead { root } => {
+                heads::$heads::open(pool, records, root, head).map(one_value)
+            }
+            Call::Next { .. } => Ok(one_value(heads::$heads::next(pool, head, out))),
+            Call::Scan { root, size } => {
+                heads::$heads::scan(pool, records, (root, size), head, out)
+            }
         }
     }};
 }
 
 /// The library through its Rust crate.
 pub fn by_crate(call: &Call, lent: Lent, answer: &mut Answer) {
-    let values = two_values!(tjornsaki, call, lent, place_of_part);
+    let values = two_values!(tjornsaki, call, lent, place_of_part, by_crate);
     *answer = laid(values.map_err(|refusal| (refusal.number, refusal.slot)));
 }
 
 pub fn by_reference(call: &Call, lent: Lent, answer: &mut Answer) {
-    let values = two_values!(reference, call, lent, place_as_said);
+    let values = two_values!(reference, call, lent, place_as_said, by_reference);
     *answer = laid(values.map_err(|refusal| (refusal.number, refusal.slot)));
 }
 

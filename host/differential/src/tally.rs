@@ -2,12 +2,29 @@
 
 use crate::call::{Call, KINDS};
 use crate::hostile::RAIDS;
-use tjornsaki::raw::Answer;
+use tjornsaki::raw::{Answer, HeadNumbers};
 
 /// Numbers of an answer: 0 for done, 1 to 12 for refused.
 const NUMBERS: usize = 13;
 /// Heights of a root.
 const HEIGHTS: usize = 4;
+/// What an asking can meet.
+const ASKINGS: [&str; 5] = [
+    "a head that is not open",
+    "a head at its end or past it",
+    "an open head asked for nothing",
+    "an open head that has less than is asked",
+    "an open head that has what is asked",
+];
+/// What the root of a head that hands out bytes can be.
+const ROOTS: [&str; HEIGHTS + 2] = [
+    "bytes below a root of height 0",
+    "bytes below a root of height 1",
+    "bytes below a root of height 2",
+    "bytes below a root of height 3",
+    "bytes below a root of a greater height",
+    "bytes below a root beyond the pool",
+];
 
 #[derive(Clone, Default)]
 pub struct Tally {
@@ -17,6 +34,8 @@ pub struct Tally {
     raids: [u64; RAIDS.len()],
     /// Resizes that were done, by the root's height before and after.
     heights: [[u64; HEIGHTS]; HEIGHTS],
+    askings: [u64; ASKINGS.len()],
+    handed_out: [u64; ROOTS.len()],
     /// Demand three: stores tried, and answers by number.
     pub mixed_stores: u64,
     mixed_answers: [u64; NUMBERS],
@@ -26,6 +45,28 @@ impl Tally {
     pub fn count_answer(&mut self, call: &Call, answer: &Answer) {
         self.calls += 1;
         self.answers[call.kind()][(answer[0] as usize).min(NUMBERS - 1)] += 1;
+    }
+
+    /// Counts an asking by the head as it was before; other calls are none.
+    pub fn count_asking(&mut self, call: &Call, head: &HeadNumbers) {
+        let [_, place, length, open] = *head;
+        if let Call::Next { size } = *call {
+            let met = match length.saturating_sub(place) {
+                _ if open != 1 => 0,
+                0 => 1,
+                _ if size == 0 => 2,
+                rest if rest < size as u64 => 3,
+                _ => 4,
+            };
+            self.askings[met] += 1;
+        }
+    }
+
+    /// Counts an asking that handed out bytes by the height of the head's root;
+    /// a root beyond the pool has none.
+    pub fn count_handed_out(&mut self, height: Option<u8>) {
+        let row = height.map_or(HEIGHTS + 1, |height| usize::from(height).min(HEIGHTS));
+        self.handed_out[row] += 1;
     }
 
     pub fn count_raid(&mut self, raid: usize) {
@@ -50,6 +91,8 @@ impl Tally {
         for (row, more) in self.heights.iter_mut().zip(&other.heights) {
             add_rows(row, more);
         }
+        add_rows(&mut self.askings, &other.askings);
+        add_rows(&mut self.handed_out, &other.handed_out);
         add_rows(&mut self.raids, &other.raids);
         add_rows(&mut self.mixed_answers, &other.mixed_answers);
     }
@@ -77,10 +120,19 @@ impl Tally {
         }
         let unmet = RAIDS.iter().zip(&self.raids).filter(|(_, count)| **count == 0);
         missing.extend(unmet.map(|((name, _), _)| name.to_string()));
+        let unmet = self.heads().filter(|(_, count)| *count == 0);
+        missing.extend(unmet.map(|(name, _)| name.to_string()));
         let of_demand_three =
             [0, 4, 5, 6, 7, 9, 10].iter().filter(|n| self.mixed_answers[**n] == 0);
         missing.extend(of_demand_three.map(|number| format!("demand three: answer {number}")));
         missing
+    }
+
+    /// What was met of heads, by name.
+    fn heads(&self) -> impl Iterator<Item = (&'static str, u64)> + '_ {
+        let askings = ASKINGS.iter().zip(&self.askings);
+        let rows = askings.chain(ROOTS.iter().zip(&self.handed_out));
+        rows.map(|(name, count)| (*name, *count))
     }
 
     /// Refusals of a kind of call that it cannot give.
@@ -114,6 +166,8 @@ impl Tally {
             let counts: Vec<String> = row.iter().map(|count| format!("{count:>9}")).collect();
             println!("{height:>8} {}", counts.join(" "));
         }
+        println!("askings of heads");
+        self.heads().for_each(|(name, count)| println!("{count:>9} {name}"));
         self.print_stores();
     }
 

@@ -45,12 +45,94 @@ fn steps_change_both_sides_alike() {
     assert_eq!(bench.calls, 3);
 }
 
+/// A bench with a blob of 700 bytes in slot 0, and these bytes.
+fn bench_with_blob() -> (Bench, Vec<u8>) {
+    let mut bench = Bench::new(20);
+    let write = Call::Write { root: 0, offset: 0, size: 700, fill: 300 };
+    let resize = Call::Resize { root: 0, length: 700 };
+    for call in [Call::Wipe, Call::Create, resize, write] {
+        assert_eq!(bench.step(&Step::Call(call)).unwrap().unwrap()[0], 0);
+    }
+    (bench, write.data())
+}
+
+/// What the bench's head hands out when it is asked for so many bytes.
+fn asked(bench: &mut Bench, size: usize) -> Vec<u8> {
+    let answer = bench.step(&Step::Call(Call::Next { size })).unwrap().unwrap();
+    bench.output[..answer[2] as usize].to_vec()
+}
+
+#[test]
+fn a_head_goes_on_while_the_store_changes() {
+    let (mut bench, bytes) = bench_with_blob();
+    let opened = bench.step(&Step::Call(Call::OpenHead { root: 0 })).unwrap().unwrap();
+    assert_eq!((opened[2], bench.head), (700, [0, 0, 700, 1]));
+    assert_eq!(asked(&mut bench, 100), bytes[..100]);
+    bench.step(&Step::Call(Call::Write { root: 0, offset: 90, size: 20, fill: 9 })).unwrap();
+    assert_eq!(asked(&mut bench, 20), [&[9; 10], &bytes[110..120]].concat());
+    bench.step(&Step::Call(Call::Delete { root: 0 })).unwrap();
+    assert_eq!(asked(&mut bench, 1_000), [0; 580]);
+    assert_eq!(bench.head, [0, 700, 700, 1]);
+    assert_eq!(asked(&mut bench, 1_000), []);
+}
+
+#[test]
+fn a_head_goes_along_to_other_lengths() {
+    let (mut bench, bytes) = bench_with_blob();
+    bench.step(&Step::ForgeHead([0, 650, 700, 1])).unwrap();
+    assert_eq!(asked(&mut bench, 20), bytes[650..670]);
+    let over = |pool| Step::CallOverLengths { call: Call::Next { size: 13 }, pool, records: 0 };
+    for (pool, handed) in [(0, 13), (63, 13), (20 * 64 + 5, 4), (0, 0)] {
+        assert_eq!(bench.step(&over(pool)).unwrap().unwrap()[..3], [0, u64::MAX, handed]);
+    }
+    assert_eq!(bench.head, [0, 700, 700, 1]);
+    bench.step(&Step::ForgeHead([0, 650, 700, 2])).unwrap();
+    assert_eq!(asked(&mut bench, 20), []);
+}
+
+#[test]
+fn a_scan_gives_the_whole_blob() {
+    let (mut bench, bytes) = bench_with_blob();
+    for (size, pieces) in [(1, 700), (48, 15), (699, 2), (700, 1), (9_999, 1)] {
+        let answer = bench.step(&Step::Call(Call::Scan { root: 0, size })).unwrap().unwrap();
+        assert_eq!(answer, [0, u64::MAX, 700, pieces, 0, 0, 0, 0]);
+        assert_eq!(bench.output[..700], bytes);
+        assert_eq!(bench.head, [0, 700, 700, 1]);
+    }
+    let answer = bench.step(&Step::Call(Call::Scan { root: 1, size: 5 })).unwrap().unwrap();
+    assert_eq!((answer[0], answer[3], bench.head), (3, 0, [0; 4]));
+}
+
 #[test]
 fn nothing_tried_is_nothing_met() {
     let missing = Tally::default().missing();
     let refusals: usize = KINDS.iter().map(|kind| kind.refusals.len()).sum();
     assert!(missing.len() > KINDS.len() + refusals);
     assert!(Tally::default().unexpected().is_empty());
+}
+
+#[test]
+fn askings_are_told_apart() {
+    let mut tally = Tally::default();
+    let askings = [
+        (0, [0, 0, 5, 1]),
+        (1, [0, 0, 5, 0]),
+        (1, [0, 5, 5, 1]),
+        (5, [0, 0, 5, 1]),
+        (6, [0, 0, 5, 1]),
+    ];
+    for (size, head) in askings {
+        let before = tally.missing().len();
+        tally.count_asking(&Call::Length { root: 0 }, &head);
+        assert_eq!(tally.missing().len(), before);
+        tally.count_asking(&Call::Next { size }, &head);
+        assert_eq!(tally.missing().len(), before - 1, "{size} of {head:?}");
+    }
+    for height in [Some(0), Some(1), Some(2), Some(3), Some(255), None] {
+        let before = tally.missing().len();
+        tally.count_handed_out(height);
+        assert_eq!(tally.missing().len(), before - 1, "height {height:?}");
+    }
 }
 
 #[test]
