@@ -149,7 +149,11 @@ fn wrong_count(chance: &mut Chance, scene: &Scene) -> Option<Vec<Step>> {
 
 fn wrong_height(chance: &mut Chance, scene: &Scene) -> Option<Vec<Step>> {
     let slot = chance.pick_any(&scene.view.live())?;
-    Some(vec![in_block(slot, 2, &[chance.pick(&[0, 1, 2, 3, 4, 255])])])
+    Some(vec![any_height(chance, slot)])
+}
+
+fn any_height(chance: &mut Chance, slot: usize) -> Step {
+    in_block(slot, 2, &[chance.pick(&[0, 1, 2, 3, 4, 255])])
 }
 
 fn stale_byte(chance: &mut Chance, scene: &Scene) -> Option<Vec<Step>> {
@@ -248,14 +252,17 @@ fn forge_head(chance: &mut Chance, scene: &Scene) -> Option<Vec<Step>> {
     Some(steps)
 }
 
-/// A head that is opened and asked before a row or a height changes, and goes
-/// on after it.
+/// A head that is opened and asked before its root's height or some row
+/// changes, and goes on after it.
 fn spoil_under_head(chance: &mut Chance, scene: &Scene) -> Option<Vec<Step>> {
-    let root = chance.pick_any(&scene.view.roots())? as u64;
-    let ways: [Raid; 6] =
-        [copy_block, zero_block, share_child, link_to_self_or_above, link_outside, wrong_height];
-    let way = chance.pick(&ways);
-    let spoiling = way(chance, scene)?;
+    let slot = chance.pick_any(&scene.view.roots())?;
+    let ways: [Raid; 5] =
+        [copy_block, zero_block, share_child, link_to_self_or_above, link_outside];
+    let spoiling = match chance.one_in(2) {
+        true => vec![any_height(chance, slot)],
+        false => chance.pick(&ways)(chance, scene)?,
+    };
+    let root = slot as u64;
     let length = reference::length(scene.view.pool, scene.view.records, root).unwrap_or(0);
     let head = [root, 0, length, 1];
     let mut steps = vec![Step::Call(Call::OpenHead { root }), ask(chance, &head)];
