@@ -146,15 +146,15 @@ fn has_more(head: &HeadNumbers) -> bool {
     head[3] == 1 && head[1] < head[2]
 }
 
-/// So many bytes are asked for at most where a head has more: several times
-/// what the largest blob has.
+/// About so many bytes are asked for at most, where a head has more: twice what
+/// the largest blob has.
 const FAR: u64 = 100_000;
 
 /// How many bytes a head is asked for: nothing, a byte, a leaf, a row, what
 /// remains and about it, and far more.
 pub fn draw_asking(chance: &mut Chance, head: &HeadNumbers) -> usize {
     let [_, place, length, _] = *head;
-    let rest = length.saturating_sub(place).min(10_000);
+    let rest = length.saturating_sub(place).min(FAR);
     let size = match chance.below(20) {
         0 => 0,
         1 => 1,
@@ -207,6 +207,6 @@ pub fn draw_head(chance: &mut Chance, view: View) -> HeadNumbers {
         3 => chance.number(),
         _ => chance.pick(&EDGES),
     };
-    let open = chance.pick(&[1, 1, 1, 1, 1, 1, 1, 1, 0, 2, u64::MAX, 1 << 32]);
+    let open = chance.pick(&[1, 1, 1, 1, 1, 1, 1, 1, 0, 2, u64::MAX, (1 << 32) + 1]);
     [root, place, length, open]
 }
