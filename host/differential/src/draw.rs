@@ -7,7 +7,7 @@ use crate::layout::{blocks_of, View};
 use tjornsaki::raw::HeadNumbers;
 
 /// How likely each kind of call is, in the order of `KINDS`.
-const WEIGHTS: [u64; 12] = [1, 24, 14, 30, 50, 70, 16, 20, 14, 16, 40, 10];
+const WEIGHTS: [u64; 12] = [1, 24, 18, 30, 50, 70, 16, 20, 14, 10, 32, 20];
 
 /// Leaf counts about which the shape of a blob changes.
 const LEAF_EDGES: [u64; 16] =
@@ -190,8 +190,10 @@ const EDGES: [u64; 12] =
 
 /// Numbers for a head that no opening made.
 pub fn draw_head(chance: &mut Chance, view: View) -> HeadNumbers {
-    let root = match chance.below(3) {
-        0 => chance.below(view.slots() as u64 + 1),
+    let slots = view.slots() as u64;
+    let root = match chance.below(4) {
+        0 => chance.below(slots),
+        1 => chance.pick(&[slots, slots + 1, 1 << 32, u64::MAX]),
         _ => draw_root(chance, view),
     };
     let length = match chance.below(4) {

@@ -172,10 +172,11 @@ impl<'a> Run<'a> {
         Ok(())
     }
 
-    /// Calls over slices that do not fit, or that fit a smaller store.
+    /// Calls over slices that do not fit, or that fit a smaller store. A wipe
+    /// does no harm here, so it is not as rare.
     fn calls_over_lengths(&mut self) -> Result<(), Finding> {
         for _ in 0..4 {
-            let call = self.draw_call();
+            let call = if self.chance.one_in(16) { Call::Wipe } else { self.draw_call() };
             let (pool, records) = self.draw_lengths();
             self.step(Step::CallOverLengths { call, pool, records })?;
         }
