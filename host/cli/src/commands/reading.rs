@@ -57,17 +57,19 @@ pub fn get(words: &Words, source: &dyn Source) -> Result<Answer, Failure> {
 }
 
 /// A head at an offset of the blob, and how many bytes are wanted from there on,
-/// by default all that follow. Whether the blob reaches so far is told by a read
-/// of no bytes where they end.
+/// by default all that follow. If the blob does not reach so far, a read where
+/// they end says so.
 fn part(
     pair: &Pair,
     root: u64,
     offset: u64,
     size: Option<u64>,
 ) -> Result<(Head<'_>, u64), Refusal> {
-    let end = offset.saturating_add(size.unwrap_or(0));
-    tjornsaki::read(&pair.pool, &pair.records, root, end, &mut [])?;
     let mut head = Head::open(&pair.pool, &pair.records, root)?;
+    let end = offset.saturating_add(size.unwrap_or(0));
+    if end > head.length() {
+        tjornsaki::read(&pair.pool, &pair.records, root, end, &mut [])?;
+    }
     skip(&mut head, offset);
     let size = size.unwrap_or_else(|| head.remaining());
     Ok((head, size))
