@@ -1,4 +1,5 @@
 // For the programs of test vectors: each reading call of the store, run once and printed.
+use crate::pieces;
 use store::reads;
 use vectors_print::answers;
 use vectors_print::heads;
@@ -38,6 +39,7 @@ fn run(c: Command, pool: &[u8], records: &[u8]) {
         b'R' => read(c, pool, records),
         b'F' => answers::leaf(reads::find_leaf(pool, records, c.a, c.b)),
         b'S' => show(c, pool, records),
+        b'P' => pieces::hand_out(c, pool, records),
         b'A' => answers::audit(reads::audit(pool, records)),
         _ => {}
     }

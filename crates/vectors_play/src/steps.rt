@@ -23,7 +23,7 @@ fn call(label: &[u8], c: Command, pool: &mut [u8], records: &mut [u8]) {
 // A command's steps.
 fn call_all(label: &[u8], c: Command, pool: &mut [u8], records: &mut [u8]) {
     let mut i: usize = 0;
-    while i < 5 {
+    while i < 6 {
         call(label, steps::step(c, i), pool, records);
         i += 1;
     }

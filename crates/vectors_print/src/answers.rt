@@ -7,7 +7,8 @@ use meaning::Finished;
 use meaning::Leaf;
 use meaning::Length;
 
-pub fn length(answer: Length) {
+// What a head hands out follows it on the line.
+pub fn opened(answer: Length) {
     match answer {
         Length::Is(n) => {
             say::passed();
@@ -15,6 +16,10 @@ pub fn length(answer: Length) {
         }
         Length::Refused(r) => say::refused(r),
     }
+}
+
+pub fn length(answer: Length) {
+    opened(answer);
     say::end();
 }
 

@@ -37,6 +37,16 @@ fn four(label: &[u8], call: &[u8], c: Command) {
     say::answer();
 }
 
+fn five(label: &[u8], call: &[u8], c: Command) {
+    say::start(label, call);
+    say::number(c.a);
+    say::number(c.b);
+    say::number(c.c);
+    say::number(c.d);
+    say::number(c.e);
+    say::answer();
+}
+
 // For a command that reads the store.
 pub fn read(label: &[u8], c: Command) {
     let name = c.name;
@@ -45,6 +55,7 @@ pub fn read(label: &[u8], c: Command) {
         b'R' => three(label, b"read", c),
         b'F' => two(label, b"find", c),
         b'S' => two(label, b"show", c),
+        b'P' => five(label, b"head", c),
         b'A' => plain(label, b"audit"),
         _ => {}
     }

@@ -10,7 +10,7 @@ use vectors_script::text::Command;
 // A command's steps.
 fn call_all(label: &[u8], c: Command, pool: &[u8], records: &[u8]) {
     let mut i: usize = 0;
-    while i < 5 {
+    while i < 6 {
         reads::call(label, steps::step(c, i), pool, records);
         i += 1;
     }

@@ -18,13 +18,14 @@ fn none() -> Command {
     command(b' ', 0, 0, 0, 0)
 }
 
-// Every reading call that names a root: one byte at offset 0, leaf 0.
+// Every reading call that names a root: one byte at offset 0, leaf 0; a head, asked for one byte and then for none.
 fn reading(root: u64, i: usize) -> Command {
     match i {
         0 => command(b'L', root, 0, 0, 0),
         1 => command(b'R', root, 0, 1, 0),
         2 => command(b'F', root, 0, 0, 0),
         3 => command(b'S', root, 0, 0, 0),
+        4 => command(b'P', root, 1, 0, 0),
         _ => none(),
     }
 }
@@ -50,14 +51,14 @@ fn changing(root: u64, i: usize) -> Command {
     }
 }
 
-// The step i of a command of at most five steps, from 0 on.
+// The step i of a command of at most six steps, from 0 on.
 pub fn step(c: Command, i: usize) -> Command {
     let name = c.name;
     match name {
         b'B' => beyond(c.a, i),
         b'C' => reading(c.a, i),
         b'E' => {
-            if i < 4 {
+            if i < 5 {
                 reading(c.a, i)
             } else {
                 command(b'A', 0, 0, 0, 0)

@@ -1,4 +1,4 @@
--- `call_all` is safe and ends: the loop counts five steps, and both slices keep their lengths.
+-- `call_all` is safe and ends: the loop counts six steps, and both slices keep their lengths.
 use mathlib.Core.Path.{_≡_}
 use Prim.Native.Nat.{_≤_, _-_}
 use borrow.Author.Needs.{needs}
@@ -7,10 +7,10 @@ use Rattle.vectors_play.proofs.steps.call_all.Statement.{statement}
 use Rattle.vectors_play.proofs.steps.call_all.Tie as tie
 
 abbrev Inv-loop : tie.InvT-loop
-Inv-loop label c pool₀ records₀ i₀ pool records i = (i ≤ 5) × ((length pool ≡ length pool₀) × (length records ≡ length records₀))
+Inv-loop label c pool₀ records₀ i₀ pool records i = (i ≤ 6) × ((length pool ≡ length pool₀) × (length records ≡ length records₀))
 
 abbrev μ-loop : tie.MeasureT-loop
-μ-loop label c pool₀ records₀ i₀ pool records i = 5 - i
+μ-loop label c pool₀ records₀ i₀ pool records i = 6 - i
 
 loop-holds : tie.Need-loop-holds Inv-loop μ-loop
 loop-holds c = search needs

@@ -1,14 +1,14 @@
--- `call_all` is safe and ends: the loop counts five steps.
+-- `call_all` is safe and ends: the loop counts six steps.
 use Prim.Native.Nat.{_≤_, _-_}
 use borrow.Author.Needs.{needs}
 use Rattle.vectors_read.proofs.script.call_all.Statement.{statement}
 use Rattle.vectors_read.proofs.script.call_all.Tie as tie
 
 abbrev Inv-loop : tie.InvT-loop
-Inv-loop label c pool records i₀ i = i ≤ 5
+Inv-loop label c pool records i₀ i = i ≤ 6
 
 abbrev μ-loop : tie.MeasureT-loop
-μ-loop label c pool records i₀ i = 5 - i
+μ-loop label c pool records i₀ i = 6 - i
 
 loop-holds : tie.Need-loop-holds Inv-loop μ-loop
 loop-holds c = search needs

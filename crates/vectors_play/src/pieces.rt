@@ -1,0 +1,48 @@
+// For the programs of test vectors: a head, opened once, and asked for four pieces that are printed.
+ghost use Prim.Native.Nat.{_≤_};
+use meaning::Length;
+use store::reads;
+use vectors_print::answers;
+use vectors_print::say;
+use vectors_script::text::Command;
+
+// What is handed out from a place on, printed: how many bytes, then the whole output. Answers how many.
+fn next_into(pool: &[u8], root: u64, len: u64, place: u64, out: &mut [u8]) -> u64 {
+    let count = store_head::next_bytes(pool, root, len, place, out);
+    say::number(count);
+    say::hex(out);
+    count
+}
+
+// One asking, of at most 64 bytes, from a place on; the place behind it. The output holds EE before.
+fn ask(pool: &[u8], root: u64, len: u64, place: u64, size: u64) -> u64
+    requires { ⌜ size ≤ 64 ⌝ }
+{
+    let mut out = [0xEEu8; 64];
+    let end = size as usize;
+    let count = next_into(pool, root, len, place, &mut out[0..end]);
+    std::num::wrapping_add_u64(place, count)
+}
+
+// Four askings, one after the other.
+fn ask_all(c: Command, pool: &[u8], len: u64)
+    requires { ⌜ (c .b ≤ 64) × (c .c ≤ 64) × (c .d ≤ 64) × (c .e ≤ 64) ⌝ }
+{
+    let second = ask(pool, c.a, len, 0, c.b);
+    let third = ask(pool, c.a, len, second, c.c);
+    let fourth = ask(pool, c.a, len, third, c.d);
+    ask(pool, c.a, len, fourth, c.e);
+    say::end();
+}
+
+// At most 64 bytes are asked for at once. A refused head is asked too: it has none to hand out.
+pub fn hand_out(c: Command, pool: &[u8], records: &[u8]) {
+    if c.b <= 64 && c.c <= 64 && c.d <= 64 && c.e <= 64 {
+        let answer = reads::length(pool, records, c.a);
+        answers::opened(answer);
+        match answer {
+            Length::Is(n) => ask_all(c, pool, n),
+            Length::Refused(_) => ask_all(c, pool, 0),
+        }
+    }
+}
