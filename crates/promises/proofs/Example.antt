@@ -20,6 +20,7 @@ use Rattle.meaning.specs.Calls.{deleteOn, deleteIn, deleteCall, showOn, showIn,
 use Rattle.meaning.specs.Answers.{Said, yields, refuses, lengthAnswer, auditAnswer, createAnswer, changeAnswer, finishAnswer, leafAnswer, readOut, shownPart}
 use Rattle.meaning.specs.Answers.{lengthSaid, auditSaid, createdSaid, changedSaid, finishedSaid, leafSaid, saidWith}
 use Rattle.meaning.specs.Run.{Call, create, audit, write, resize, delete, tellLength, read, showLeaf, says, perform, moments, run}
+use Rattle.meaning.specs.Head.{headOf, openHead, blockAt, childAt, below, heightAt, byteAt, piece, handed, handedOut, moved, pieces}
 use Rattle.meaning.specs.Cases.{sameSaid}
 use Rattle.meaning.specs.declared.Edition.{Edition}
 use Rattle.meaning.specs.Edition.{Proper}
@@ -29,6 +30,7 @@ use Rattle.laws.proofs.Puts.{put-same, put-other}
 use Rattle.laws_history.proofs.Started.{run-settled}
 use borrow.Author.Tests.{eqb-true, eqb-false}
 use Rattle.promises.specs.Demands.{slotsAt, reader, Filled}
+use Rattle.promises.specs.Heads.{handsOut}
 
 -- four slots, wiped
 unfoldable pub start : Store
@@ -66,11 +68,14 @@ answers =
     ∷ sameSaid (asked (put-back 4 3 3 5) 5 audit) (refuses (at 9 3))
     ∷ sameSaid (asked (put-back 4 3 3 5) 5 (tellLength 0)) (yields (49 ∷ []))
     ∷ sameSaid (asked (moment 5 .pool) 5 audit) (yields (3 ∷ []))
+    -- a head, on the undamaged blob and on the one with the older block
+    ∷ sameList (joined (handsOut one (reader (moment 3 .pool) (moment 3)) 0 (1 ∷ 1 ∷ []))) (9 ∷ 0 ∷ [])
+    ∷ sameList (joined (handsOut one (reader (put-back 2 1 1 3) (moment 3)) 0 (1 ∷ 1 ∷ []))) []
     ∷ []
 
 -- all of it computes so
 pub answers-hold : all (λ b. b) answers ≡ true
-unfolding start calls moment put-back asked answers run moments afterWipe showOn showIn showCall shownPart deleteOn deleteIn deleteCall sameSaid one pick both part pasted joined range filter all ofLast mapLast only sameList zeros number bytes padded fours sameCell itemBytes header blockBytes encoded block heightOf countOf ownSlot versionOf dataOf childrenOf recordWith recordOf recordAt stateOf recordedOf state recorded soundRecord lastVersion usableSlot slotOf atSlot content leaves cells rootOf contentOf leavesOf cellsOf slotsOf lengthOf held up leavesFor totalWithin total leastCount mostCount refusalOf at nowhere must first flaw used formed blockCheck isRoot linkCheck andThen passing isEmpty oneVisit visitRow visit fromRoot roots closingCheck closing poolCheck put puts changedBy freed renewed changed changes lowest chain onLast roomy hang raised addLeaf addLeaves lastLeaf share shares lastBytes longer keepRow keep lower shorter resized refuseIf afterCheck slotsIn sized refuseBadRecord opened withBlob usable rooted changing refuseWorn refuseFull become createOn createIn newBlocks resizeOn resizeIn createCall resizeCall after freeRecords wiped says createdSaid createAnswer auditSaid auditAnswer changedSaid changeAnswer lengthSaid lengthAnswer saidWith finishedSaid finishAnswer readOut leafSaid leafAnswer perform reading blobCheck lengthOn lengthIn refusePast readOn readIn live auditOn auditIn writeOn writeIn lengthCall readCall auditCall writeCall along refill refilled slotNumber
+unfolding headOf openHead blockAt childAt below heightAt byteAt piece handed handedOut moved pieces start calls moment put-back asked answers run moments afterWipe showOn showIn showCall shownPart deleteOn deleteIn deleteCall sameSaid one pick both part pasted joined range filter all ofLast mapLast only sameList zeros number bytes padded fours sameCell itemBytes header blockBytes encoded block heightOf countOf ownSlot versionOf dataOf childrenOf recordWith recordOf recordAt stateOf recordedOf state recorded soundRecord lastVersion usableSlot slotOf atSlot content leaves cells rootOf contentOf leavesOf cellsOf slotsOf lengthOf held up leavesFor totalWithin total leastCount mostCount refusalOf at nowhere must first flaw used formed blockCheck isRoot linkCheck andThen passing isEmpty oneVisit visitRow visit fromRoot roots closingCheck closing poolCheck put puts changedBy freed renewed changed changes lowest chain onLast roomy hang raised addLeaf addLeaves lastLeaf share shares lastBytes longer keepRow keep lower shorter resized refuseIf afterCheck slotsIn sized refuseBadRecord opened withBlob usable rooted changing refuseWorn refuseFull become createOn createIn newBlocks resizeOn resizeIn createCall resizeCall after freeRecords wiped says createdSaid createAnswer auditSaid auditAnswer changedSaid changeAnswer lengthSaid lengthAnswer saidWith finishedSaid finishAnswer readOut leafSaid leafAnswer perform reading blobCheck lengthOn lengthIn refusePast readOn readIn live auditOn auditIn writeOn writeIn lengthCall readCall auditCall writeCall along refill refilled slotNumber
 answers-hold = refl
 
 -- Such pools are those that demand three speaks of: any block of a run, in any slot of the pool of any moment of it.

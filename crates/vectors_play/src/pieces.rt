@@ -6,11 +6,20 @@ use vectors_print::answers;
 use vectors_print::say;
 use vectors_script::text::Command;
 
-// What is handed out from a place on, printed: how many bytes, then the whole output. Answers how many.
-fn next_into(pool: &[u8], root: u64, len: u64, place: u64, out: &mut [u8]) -> u64 {
-    let count = store_head::next_bytes(pool, root, len, place, out);
+// What was handed out, printed: how many bytes, then the whole output.
+fn tell(count: u64, out: &[u8]) {
     say::number(count);
     say::hex(out);
+}
+
+// The first asking, of at most 64 bytes, by a head that holds the pool; the place behind it. The output holds EE before.
+fn ask_first(pool: &[u8], records: &[u8], root: u64, size: u64) -> u64
+    requires { ⌜ size ≤ 64 ⌝ }
+{
+    let mut out = [0xEEu8; 64];
+    let end = size as usize;
+    let count = store_head::first_bytes(pool, records, root, &mut out[0..end]);
+    tell(count, &out[0..end]);
     count
 }
 
@@ -20,15 +29,16 @@ fn ask(pool: &[u8], root: u64, len: u64, place: u64, size: u64) -> u64
 {
     let mut out = [0xEEu8; 64];
     let end = size as usize;
-    let count = next_into(pool, root, len, place, &mut out[0..end]);
+    let count = store_head::next_bytes(pool, root, len, place, &mut out[0..end]);
+    tell(count, &out[0..end]);
     std::num::wrapping_add_u64(place, count)
 }
 
 // Four askings, one after the other.
-fn ask_all(c: Command, pool: &[u8], len: u64)
+fn ask_all(c: Command, pool: &[u8], records: &[u8], len: u64)
     requires { ⌜ (c .b ≤ 64) × (c .c ≤ 64) × (c .d ≤ 64) × (c .e ≤ 64) ⌝ }
 {
-    let second = ask(pool, c.a, len, 0, c.b);
+    let second = ask_first(pool, records, c.a, c.b);
     let third = ask(pool, c.a, len, second, c.c);
     let fourth = ask(pool, c.a, len, third, c.d);
     ask(pool, c.a, len, fourth, c.e);
@@ -41,8 +51,8 @@ pub fn hand_out(c: Command, pool: &[u8], records: &[u8]) {
         let answer = reads::length(pool, records, c.a);
         answers::opened(answer);
         match answer {
-            Length::Is(n) => ask_all(c, pool, n),
-            Length::Refused(_) => ask_all(c, pool, 0),
+            Length::Is(n) => ask_all(c, pool, records, n),
+            Length::Refused(_) => ask_all(c, pool, records, 0),
         }
     }
 }
