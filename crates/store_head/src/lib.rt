@@ -60,13 +60,6 @@ pub fn open<'a>(pool: &'a [u8], records: &[u8], root: u64) -> Head<'a>
     }
 }
 
-// What opening answered: the blob's length, or the refusal.
-pub fn answer<'a>(h: Head<'a>) -> Length
-    ensures { λ r. ⌜ r ≡ h .entry .answer ⌝ }
-{
-    h.answer
-}
-
 // The next bytes, as many as out takes or as remain; the rest of out stays. The head that is handed back stands behind them.
 pub fn next<'a>(h: Head<'a>, out: &mut [u8]) -> Head<'a>
     ensures { λ r. ⌜ (r ≡ headAfter (h .entry) (length (now (out .entry)))) × (now (out .exit) ≡ outFrom (now (h .entry .pool)) (h .entry .root) (h .entry .place) (h .entry .answer) (now (out .entry))) ⌝ }

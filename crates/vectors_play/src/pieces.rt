@@ -12,25 +12,34 @@ fn tell(count: u64, out: &[u8]) {
     say::hex(out);
 }
 
+fn first_into(pool: &[u8], records: &[u8], root: u64, out: &mut [u8]) -> u64 {
+    let count = store_head::first_bytes(pool, records, root, out);
+    tell(count, out);
+    count
+}
+
+fn next_into(pool: &[u8], root: u64, len: u64, place: u64, out: &mut [u8]) -> u64 {
+    let count = store_head::next_bytes(pool, root, len, place, out);
+    tell(count, out);
+    count
+}
+
 // The first asking, of at most 64 bytes, by a head that holds the pool; the place behind it. The output holds EE before.
 fn ask_first(pool: &[u8], records: &[u8], root: u64, size: u64) -> u64
     requires { ⌜ size ≤ 64 ⌝ }
 {
     let mut out = [0xEEu8; 64];
     let end = size as usize;
-    let count = store_head::first_bytes(pool, records, root, &mut out[0..end]);
-    tell(count, &out[0..end]);
-    count
+    first_into(pool, records, root, &mut out[0..end])
 }
 
-// One asking, of at most 64 bytes, from a place on; the place behind it. The output holds EE before.
+// One asking more, from a place on; the place behind it.
 fn ask(pool: &[u8], root: u64, len: u64, place: u64, size: u64) -> u64
     requires { ⌜ size ≤ 64 ⌝ }
 {
     let mut out = [0xEEu8; 64];
     let end = size as usize;
-    let count = store_head::next_bytes(pool, root, len, place, &mut out[0..end]);
-    tell(count, &out[0..end]);
+    let count = next_into(pool, root, len, place, &mut out[0..end]);
     std::num::wrapping_add_u64(place, count)
 }
 
