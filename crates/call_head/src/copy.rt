@@ -4,12 +4,11 @@ use base_bytes::runs;
 use base_slot::slot;
 use meaning::Edition;
 ghost use mathlib.Core.Path.{_≡_};
-ghost use Prim.Native.Nat.{_+_, _-_, _/_, _≤_, _<_};
+ghost use Prim.Native.Nat.{_+_, _-_, _/_, _≤_};
 ghost use lib.ListN.{length};
-ghost use Rattle.meaning.specs.Lists.{pasted};
 ghost use Rattle.meaning.specs.Edition.{Proper};
-ghost use Rattle.meaning.specs.Head.{below, piece};
-ghost use Rattle.call_head.specs.copy.{payloadAt, Copying};
+ghost use Rattle.meaning.specs.Head.{below};
+ghost use Rattle.call_head.specs.copy.{payloadAt, Copying, Copied};
 
 // The whole lent part becomes a stretch of a slot's payload, from `within` on; zeros where the pool has no such slot.
 fn fill_payload(e: Edition, pool: &[u8], s: usize, within: usize, dst: &mut [u8])
@@ -39,8 +38,7 @@ fn copy_leaf(
     requires { ⌜ Proper e ⌝ }
     requires { ⌜ Copying place pos count (length (now out)) ⌝ }
     requires { ⌜ s ≡ below e (now pool) h root ((place + pos) / e .leaf) ⌝ }
-    ensures { λ r. ⌜ (pos < r) × (r ≤ count) ⌝ }
-    ensures { λ r. ⌜ now (out .exit) ≡ pasted pos (piece e (now (pool .entry)) h root (place + pos) (r - pos)) (now (out .entry)) ⌝ }
+    ensures { λ r. ⌜ Copied e (now (pool .entry)) h root place pos count r (now (out .entry)) (now (out .exit)) ⌝ }
 {
     let at = place + pos;
     let m = runs::stretch_from(e.leaf, at, count - pos);
@@ -72,8 +70,7 @@ fn copy_child(
     requires { ⌜ Proper e ⌝ }
     requires { ⌜ Copying place pos count (length (now out)) ⌝ }
     requires { ⌜ (h ≡ 0 → ⊥) × (parent ≡ below e (now pool) (h - 1) root ((place + pos) / e .leaf / e .fan)) ⌝ }
-    ensures { λ r. ⌜ (pos < r) × (r ≤ count) ⌝ }
-    ensures { λ r. ⌜ now (out .exit) ≡ pasted pos (piece e (now (pool .entry)) h root (place + pos) (r - pos)) (now (out .entry)) ⌝ }
+    ensures { λ r. ⌜ Copied e (now (pool .entry)) h root place pos count r (now (out .entry)) (now (out .exit)) ⌝ }
 {
     let leaf = (place + pos) / e.leaf;
     let s = descend::child_at(e, pool, parent, leaf % e.fan);
@@ -94,8 +91,7 @@ fn copy_row(
     requires { ⌜ Proper e ⌝ }
     requires { ⌜ Copying place pos count (length (now out)) ⌝ }
     requires { ⌜ (h ≡ 0 → ⊥) ⌝ }
-    ensures { λ r. ⌜ (pos < r) × (r ≤ count) ⌝ }
-    ensures { λ r. ⌜ now (out .exit) ≡ pasted pos (piece e (now (pool .entry)) h root (place + pos) (r - pos)) (now (out .entry)) ⌝ }
+    ensures { λ r. ⌜ Copied e (now (pool .entry)) h root place pos count r (now (out .entry)) (now (out .exit)) ⌝ }
 {
     let row = row_of(e, place + pos);
     let parent = descend::slot_below(e, pool, h - 1, root, row);
@@ -122,8 +118,7 @@ pub fn copy_some(
 ) -> usize
     requires { ⌜ Proper e ⌝ }
     requires { ⌜ Copying place pos count (length (now out)) ⌝ }
-    ensures { λ r. ⌜ (pos < r) × (r ≤ count) ⌝ }
-    ensures { λ r. ⌜ now (out .exit) ≡ pasted pos (piece e (now (pool .entry)) h root (place + pos) (r - pos)) (now (out .entry)) ⌝ }
+    ensures { λ r. ⌜ Copied e (now (pool .entry)) h root place pos count r (now (out .entry)) (now (out .exit)) ⌝ }
 {
     if h == 0 {
         return copy_leaf(e, pool, h, root, root, place, pos, count, out);

@@ -5,7 +5,6 @@ use native.Mathlib.Nat.{add-zero, add-assoc, mul-add, mul-assoc, mul-one, mul-le
 use native.Mathlib.Nat.{mul-add-mod-self-left, div-eq-of-lt, mod-eq-of-lt}
 use native.Mathlib.Omega.{arith}
 
--- a number by two bases: the quotient by their product, and what remains, by the first
 module _ (f g i : ℕ) (some : 1 ≤ f) (more : 1 ≤ g) where
   regroup : (c b a : ℕ) → f * (g * c + b) + a ≡ f * g * c + (f * b + a)
   regroup c b a = rw (mul-add f (g * c) b, mul-assoc f g c) (add-assoc (f * (g * c)) (f * b) a)

@@ -46,7 +46,7 @@ module _ (e : Edition) (P : List ℕ) where
   unfoldable pub heightAt : (r : ℕ) → ℕ
   heightAt r = min (heightOf (blockAt r)) (e .top)
 
-  -- the byte at a place, of a blob whose root r is h high: it lies in the leaf of that number; 0, where the pool has no such slot
+  -- the byte at a place, of a blob whose root r is h high: it lies in leaf number place / leaf; 0, where the pool has no such slot
   unfoldable pub byteAt : (h r place : ℕ) → ℕ
   byteAt h r place = getD (blockAt (below h r (place / e .leaf))) (16 + place % e .leaf) 0
 

@@ -30,8 +30,8 @@ use Rattle.promises.proofs.Said.{saidBy, oneNumber, allBytes, said-refu
 use Rattle.promises.proofs.Stores.{moment-passes, gives-length}
 use Rattle.promises.proofs.Three.{reading-told}
 use Rattle.promises.proofs.HeadReads.{piece-read}
-use Rattle.promises.specs.Demands.{slotsAt, blobAt, AsItWas, FirstOther, reader, Told, Filled}
-use Rattle.promises.specs.Heads.{opens, handsOut, SameHead, ReadingHead}
+use Rattle.promises.specs.Demands.{slotsAt, blobAt, reader, Told, Filled}
+use Rattle.promises.specs.Heads.{opens, handsOut, Next, HeadTold, ReadingHead}
 
 -- an opening that says a length is done with it
 opened-done : (e : Edition) (S : Store) (r n : ℕ) → opens e S r ≡ yields (n ∷ []) → (cs : List Change) × (lengthCall e (S .pool) (S .records) r ≡ done n cs)
@@ -66,8 +66,7 @@ module _ (e : Edition) (p : Proper e) (S : Store) (r : ℕ) where
     unfolding saidBy
     piece-said at m l = says-read e S r at m ∙ ap (saidBy allBytes) (piece-read e p P (S .records) r n (opened-done e S r n opening .1) at m l)
 
-    next : (sizes : List ℕ) (k : ℕ) → (d : List ℕ) × (handsOut e S r (sizes ++ (k ∷ [])) ≡ handsOut e S r sizes ++ (d ∷ []))
-        × (says e S (read r (min (sum sizes) n) (min k (n - min (sum sizes) n))) ≡ yields d)
+    next : (sizes : List ℕ) (k : ℕ) → Next e S r n sizes k
     unfolding handed
     next sizes k =
         let z : 0 + sum sizes ≡ sum sizes = zero-add (sum sizes) in
@@ -112,38 +111,33 @@ module _ (e : Edition) (p : Proper e) (S S* : Store) (r n : ℕ) (opening : open
       ap (λ h. pieces e (S* .pool) h sizes) (is e p S* r n opening*) ∙ same-pieces sizes 0 (omega arith)
       ∙ sym (ap (λ h. pieces e (S .pool) h sizes) (is e p S r n opening))
 
--- demand three's two sentences, from what length and read tell
-module _ (e : Edition) (p : Proper e) (S : Store) (P* : List ℕ) (r : ℕ) (b : Blob) where
-  head-told : (length-told : Told e S P* b (tellLength r)) → ((at m : ℕ) → Told e S P* b (read r at m)) → (n : ℕ) → opens e S r ≡ yields (n ∷ [])
-      → (sizes : List ℕ) → SameHead e S (reader P* S) r sizes ↔ AsItWas e (S .pool) P* b
-  head-told length-told read-told n opening sizes = (
-    (λ h. length-told .answers .0 (h .0)),
-    (λ was.
-        let q = length-told .answers .1 was in
-        (q, same-handed e p S (reader P* S) r n opening (q ∙ opening) (λ at m. read-told at m .answers .1 was) sizes)),
-  )
+-- demand three's sentence, from what length and read tell
+module _ (e : Edition) (p : Proper e) (S : Store) (P* : List ℕ) (r : ℕ) (b : Blob) (length-told : Told e S P* b (tellLength r))
+    (read-told : (at m : ℕ) → Told e S P* b (read r at m)) (n : ℕ) (opening : opens e S r ≡ yields (n ∷ [])) where
+  head-told : HeadTold e S P* r b
+  head-told = record {
+    answers = λ sizes. (
+      (λ h. length-told .answers .0 (h .0)),
+      (λ was.
+          let q = length-told .answers .1 was in
+          (q, same-handed e p S (reader P* S) r n opening (q ∙ opening) (λ at m. read-told at m .answers .1 was) sizes)),
+    );
+    refuses = λ other.
+        let (n, s, first, low, most, q) = length-told .refuses other in
+        (n, s, first, low, most, q, nothing e p (reader P* S) r (at n s) q);
+  }
 
-  head-refused : Told e S P* b (tellLength r) → (AsItWas e (S .pool) P* b → ⊥) → (n s : ℕ) × FirstOther e (S .pool) P* b s × (4 ≤ n) × (n ≤ 7)
-      × (opens e (reader P* S) r ≡ refuses (at n s)) × ((sizes : List ℕ) → joined (handsOut e (reader P* S) r sizes) ≡ [])
-  head-refused length-told other =
-      let (n, s, first, low, most, q) = length-told .refuses other in
-      (n, s, first, low, most, q, nothing e p (reader P* S) r (at n s) q)
-
-module _ (e : Edition) (p : Proper e) where
-  told : (S₀ : Store) → sized e (S₀ .pool) (S₀ .records) ≡ true → (calls : List Call) (S : Store) → List·Memᴰ S (run e S₀ calls)
-      → (P* : List ℕ) → length P* ≡ length (S .pool) → Filled e S₀ calls P* → (r : ℕ) → state (S .records) r ≡ 2
-      → (b : Blob) × (seen : List ℕ) × (blobAt e S r ≡ fine b seen)
-      × ((sizes : List ℕ) → SameHead e S (reader P* S) r sizes ↔ AsItWas e (S .pool) P* b)
-      × ((AsItWas e (S .pool) P* b → ⊥) → (n s : ℕ) × FirstOther e (S .pool) P* b s × (4 ≤ n) × (n ≤ 7)
-      × (opens e (reader P* S) r ≡ refuses (at n s)) × ((sizes : List ℕ) → joined (handsOut e (reader P* S) r sizes) ≡ []))
-  told S₀ good calls S moment P* size fill r root =
+module _ (e : Edition) (p : Proper e) (S₀ : Store) (good : sized e (S₀ .pool) (S₀ .records) ≡ true) (calls : List Call) (S : Store)
+    (moment : List·Memᴰ S (run e S₀ calls)) (P* : List ℕ) (size : length P* ≡ length (S .pool)) (fill : Filled e S₀ calls P*) where
+  told : (r : ℕ) → state (S .records) r ≡ 2 → (b : Blob) × (seen : List ℕ) × (blobAt e S r ≡ fine b seen) × HeadTold e S P* r b
+  told r root =
       let (b, seen, found, tells) = reading-told e p S₀ good calls S moment P* size fill r root in
       let of-length = tells 0 0 0 (tellLength r) (List·Memᴰ·head refl) in
       let of-read : (at m : ℕ) → Told e S P* b (read r at m) = λ at m. tells at m 0 (read r at m) (List·Memᴰ·tail (List·Memᴰ·head refl)) in
       let (bs, (o, passed)) = moment-passes e p S₀ good calls S moment in
       let low = root-within (S .records) (slotsAt e S) r (sized-lengths e (S .pool) (S .records) (o .lengths) .lines) root in
       let opening : opens e S r ≡ yields (lengthOf b ∷ []) = gives-length e p S r b (o, (low, root), (seen, found)) in
-      (b, seen, found, head-told e p S P* r b of-length of-read (lengthOf b) opening, head-refused e p S P* r b of-length)
+      (b, seen, found, head-told e p S P* r b of-length of-read (lengthOf b) opening)
 
 -- the promise, of every proper edition
 pub reading-head : (e : Edition) → Proper e → ReadingHead e

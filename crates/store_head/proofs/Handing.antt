@@ -1,4 +1,4 @@
--- The place and the output after an asking are the definition's; the place stays within 64 bits, since it never passes the blob's length.
+-- The place and the output after an asking are the definition's; the place stays within 64 bits, since no asking takes it past the blob's length.
 use mathlib.Core.Path.{_≡_, sym, subst}
 use mathlib.Core.List.{List}
 use Prim.Native.Nat.{ℕ, _+_, _^_, _<_}

@@ -15,7 +15,7 @@ use Rattle.laws.proofs.Parts.{lent-back, lent-length}
 use Rattle.laws.proofs.Ranges.{one-by-one}
 use Rattle.laws.proofs.Editions.{within-below}
 use Rattle.laws.proofs.Pieces.{piece-length}
-use Rattle.call_head.specs.copy.{payloadAt, Copying}
+use Rattle.call_head.specs.copy.{payloadAt, Copying, Copied}
 use Rattle.call_head.proofs.descend.Descended.{block-read, block-none}
 
 -- of no byte, zeros
@@ -57,10 +57,10 @@ module _ (e : Edition) (P : List ℕ) (some : 1 ≤ e .leaf) (h r : ℕ) where
 -- one stretch
 module _ (e : Edition) (p : Proper e) (P : List ℕ) (h r place pos count : ℕ) (out : List ℕ) (g : Copying place pos count (length out))
     (m : ℕ) (em : m ≡ min (e .leaf - (place + pos) % e .leaf) (count - pos)) where
-  pub some-left : pos < pos + m
+  some-left : pos < pos + m
   some-left = omega (arith, within-below e p (place + pos))
 
-  pub not-past : pos + m ≤ count
+  not-past : pos + m ≤ count
   not-past = omega arith
 
   pub end-in : pos + m ≤ length out
@@ -69,7 +69,7 @@ module _ (e : Edition) (p : Proper e) (P : List ℕ) (h r place pos count : ℕ)
   pub stretch-fits : (place + pos) % e .leaf + length (take (pos + m - pos) (drop pos out)) ≤ e .leaf
   stretch-fits = omega (arith, within-below e p (place + pos), lent-length pos m out end-in)
 
-  pub stretch-copied : (s : ℕ) → s ≡ below e P h r ((place + pos) / e .leaf) → (y : List ℕ)
+  stretch-copied : (s : ℕ) → s ≡ below e P h r ((place + pos) / e .leaf) → (y : List ℕ)
       → y ≡ payloadAt e P s ((place + pos) % e .leaf) (length (take (pos + m - pos) (drop pos out)))
       → putMid pos (pos + m - pos) out y ≡ pasted pos (piece e P h r (place + pos) (pos + m - pos)) out
   stretch-copied s es y ey =
@@ -79,3 +79,8 @@ module _ (e : Edition) (p : Proper e) (P : List ℕ) (h r place pos count : ℕ)
       let a : y ≡ piece e P h r (place + pos) m = ey ∙ rw (n, es) (sym (stretch-is e P (p .some) h r (place + pos) m l)) in
       lent-back pos m out y (piece e P h r (place + pos) m) a (piece-length e P h r (place + pos) m)
       ∙ ap (λ (k : ℕ). pasted pos (piece e P h r (place + pos) k) out) (sym z)
+
+  pub stretch-done : (s : ℕ) → s ≡ below e P h r ((place + pos) / e .leaf) → (y : List ℕ)
+      → y ≡ payloadAt e P s ((place + pos) % e .leaf) (length (take (pos + m - pos) (drop pos out)))
+      → Copied e P h r place pos count (pos + m) out (putMid pos (pos + m - pos) out y)
+  stretch-done s es y ey = record { more = some-left; most = not-past; bytes = stretch-copied s es y ey }

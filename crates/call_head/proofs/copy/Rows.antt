@@ -13,7 +13,7 @@ use Rattle.laws.proofs.Inversions.{by-test}
 use Rattle.laws.proofs.Parts.{pasted-none, pasted-length}
 use Rattle.laws.proofs.Building.{pasted-more}
 use Rattle.laws.proofs.Pieces.{piece-length, piece-append}
-use Rattle.call_head.specs.copy.{Copying}
+use Rattle.call_head.specs.copy.{Copying, Copied}
 
 -- the leaves of one row
 module _ (e : Edition) (P : List ℕ) (h r : ℕ) where
@@ -46,6 +46,9 @@ module _ (e : Edition) (P : List ℕ) (h r : ℕ) where
         e′ ∙ rw eo (ap (λ (x : ℕ). pasted x b (pasted pos a out₀)) k)
         ∙ pasted-more pos a b out₀ (omega (arith, g .fits, piece-length e P h r (place + pos) (to - pos), piece-length e P h r (place + to) (q - to)))
         ∙ ap (λ (x : List ℕ). pasted pos x out₀) (sym d)
+
+    pub row-done : to ≤ count → count ≤ to → Copied e P h r place pos count to out₀ out
+    row-done m l = record { more = omega (arith, g .more); most = m; bytes = eo }
 
 -- along a row: its number, its leaves' parent, and how far it is copied
 pub record Along (e : Edition) (P : List ℕ) (h r place pos to row q : ℕ) : Type 0 where

@@ -1,4 +1,4 @@
-use Rattle.call_head.proofs.copy.Copied.{some-left, not-past, stretch-fits, stretch-copied}
+use Rattle.call_head.proofs.copy.Copied.{stretch-fits, stretch-done}
 use borrow.Author.Needs.{needs}
 use Rattle.call_head.proofs.copy.copy_leaf.Statement.{statement}
 use Rattle.call_head.proofs.copy.copy_leaf.Tie as tie
@@ -34,7 +34,7 @@ same-length : tie.Need-same-length
 same-length c = search needs
 
 returns : tie.Need-returns
-returns c = ((search some-left, search not-past), search stretch-copied)
+returns c = search stretch-done
 
 pub copy-leaf-spec : {M : Type 1} → statement M
 copy-leaf-spec =

@@ -2,7 +2,7 @@ use mathlib.Core.Path.{_≡_}
 use Prim.Native.Nat.{_+_, _-_, _≤_}
 use Rattle.meaning.specs.Lists.{pasted}
 use Rattle.meaning.specs.Head.{piece}
-use Rattle.call_head.proofs.copy.Rows.{row-starts, row-same, row-goes, row-more, Along, along-starts, along-more, row-begun, row-parent}
+use Rattle.call_head.proofs.copy.Rows.{row-starts, row-same, row-goes, row-more, row-done, Along, along-starts, along-more, row-begun, row-parent}
 use borrow.Author.Needs.{needs}
 use Rattle.call_head.proofs.copy.copy_row.Statement.{statement}
 use Rattle.call_head.proofs.copy.copy_row.Tie as tie
@@ -41,7 +41,7 @@ returns : tie.Need-returns Inv-loop μ-loop
 returns c =
     let x = c .before in
     let a = x .before .before .loop .inv in
-    ((row-begun _ _ _ _ _ _ _ _ _ (a .0) _ (x .row-of2 .ensures) (c .if1 .taken), search needs), search needs)
+    record { more = row-begun _ _ _ _ _ _ _ _ _ (a .0) _ (x .row-of2 .ensures) (c .if1 .taken); most = search needs; bytes = search needs }
 
 copy-child-requires : tie.Need-copy-child-requires Inv-loop μ-loop
 copy-child-requires c κs =
@@ -59,7 +59,7 @@ same-length-2 : tie.Need-same-length-2 Inv-loop μ-loop
 same-length-2 c = search row-same
 
 returns-2 : tie.Need-returns-2 Inv-loop μ-loop
-returns-2 c = search needs
+returns-2 c = search row-done
 
 pub copy-row-spec : {M : Type 1} → statement M
 copy-row-spec =
