@@ -113,6 +113,7 @@ static void ask_forged(size_t pool_length, size_t size)
 {
     uint64_t left = lent.head[TJ_HEAD_PLACE] < lent.head[TJ_HEAD_LENGTH] ? lent.head[TJ_HEAD_LENGTH] - lent.head[TJ_HEAD_PLACE] : 0, i;
     uint64_t count = lent.head[TJ_HEAD_OPEN] != 1 ? 0 : left < size ? left : size;
+    memset(lent.out, 0xA5, sizeof lent.out);
     memcpy(&wanted, &lent, sizeof wanted);
     for (i = 0; i < count; i++) {
         wanted.out[i] = byte_at(pool_length / TJ_BLOCK, lent.head[TJ_HEAD_ROOT], lent.head[TJ_HEAD_PLACE] + i);
@@ -157,6 +158,7 @@ static void forge_all(void)
         forge(roots[r], 0, 577, 0);
         forge(roots[r], 0, 577, 2);
         forge(roots[r], 0, 577, UINT64_MAX);
+        forge(roots[r], 0, 577, (uint64_t)1 << 32 | 1);
     }
 }
 

@@ -1,7 +1,6 @@
 -- The reading head's promise. A run of askings, joined, is one piece, and a piece is what one read gives; so where length and read answer alike on two pools, the
 -- head opens and hands out alike, and demand three's sentence follows from those of length and read.
 use mathlib.Core.Path.{_≡_, refl, ap, ap₂, _∙_, sym}
-use mathlib.Core.Logic.{_↔_}
 use mathlib.Core.Bool.{true}
 use mathlib.Core.List.{List, [], _∷_, _++_, List·Memᴰ, List·Memᴰ·head, List·Memᴰ·tail}
 use Prim.Native.Nat.{ℕ, _+_, _-_, _≤_, min}

@@ -1,4 +1,4 @@
-// For the programs of test vectors: a head, opened once, and asked for four pieces that are printed.
+// For the programs of test vectors: a blob's first pieces, printed. A head that is opened hands out the first; the others go by root, length and place.
 ghost use Prim.Native.Nat.{_≤_};
 use meaning::Length;
 use store::reads;

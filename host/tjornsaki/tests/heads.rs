@@ -20,6 +20,8 @@ fn store(bytes: &[u8]) -> (Store, u64) {
     let (mut pool, mut records) = room(1_024);
     wipe(&mut pool, &mut records).unwrap();
     assert_eq!(create(&mut pool, &mut records), Ok(0));
+    resize(&mut pool, &mut records, 0, 48).unwrap();
+    write(&mut pool, &mut records, 0, 0, &[0xD5; 48]).unwrap();
     let root = create(&mut pool, &mut records).unwrap();
     // The longest blob leaves no slot for another.
     if bytes.len() == 44_976 {
