@@ -2,7 +2,7 @@
 -- head opens and hands out alike, and demand three's sentence follows from those of length and read.
 use mathlib.Core.Path.{_≡_, refl, ap, ap₂, _∙_, sym}
 use mathlib.Core.Bool.{true}
-use mathlib.Core.List.{List, [], _∷_, _++_, List·Memᴰ, List·Memᴰ·head, List·Memᴰ·tail}
+use mathlib.Core.List.{List, [], _∷_, List·Memᴰ, List·Memᴰ·head, List·Memᴰ·tail}
 use Prim.Native.Nat.{ℕ, _+_, _-_, _≤_, min}
 use native.Mathlib.Nat.{sub-zero, zero-add}
 use native.Mathlib.Omega.{arith}
@@ -42,12 +42,12 @@ opened-done e S r n h =
 -- its head stands at the blob's start
 opened-head : (e : Edition) (S : Store) (r n : ℕ) {cs : List Change} → lengthCall e (S .pool) (S .records) r ≡ done n cs → openHead e (S .pool) (S .records) r ≡ headAt r 0 n
 unfolding openHead headOf
-opened-head e S r n h = rw h
+opened-head e S r n h = ap (headOf r) h
 
 -- a refused one has nothing left
 refused-head : (e : Edition) (S : Store) (r : ℕ) (q : Refusal) → opens e S r ≡ refuses q → openHead e (S .pool) (S .records) r ≡ headAt r 0 0
 unfolding openHead headOf
-refused-head e S r q h = rw (said-refused oneNumber (lengthCall e (S .pool) (S .records) r) q (sym (says-length e S r) ∙ h))
+refused-head e S r q h = ap (headOf r) (said-refused oneNumber (lengthCall e (S .pool) (S .records) r) q (sym (says-length e S r) ∙ h))
 
 module _ (e : Edition) (p : Proper e) (S : Store) (r : ℕ) where
   abbrev P : List ℕ
