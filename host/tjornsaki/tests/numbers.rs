@@ -58,6 +58,29 @@ fn block_totals() {
     }
 }
 
+/// The paper's rule for the block total of so many leaves.
+fn block_total(leaves: u64) -> u64 {
+    match leaves {
+        1 => 1,
+        n => n + block_total((n + 11) / 12),
+    }
+}
+
+/// Every row of the library's sheet: a blob of that many leaves fits a pool of
+/// its block total, and lacks room in one of a slot less.
+#[test]
+fn every_count_of_leaves_has_its_price() {
+    for leaves in 2..=937 {
+        let blocks = block_total(leaves);
+        let (pool, records) = with_blob(blocks as usize, 48 * leaves);
+        assert_eq!(audit(&pool, &records), Ok(blocks), "{} leaves", leaves);
+        let (mut pool, mut records) = with_blob(blocks as usize - 1, 0);
+        let refused = resize(&mut pool, &mut records, 0, 48 * leaves);
+        assert_eq!(refused, Err(no(11, None)), "{} leaves", leaves);
+    }
+    assert_eq!(block_total(937), 1_024);
+}
+
 #[test]
 fn longer_shorter_and_used_again() {
     let (mut pool, mut records) = with_blob(4, 0);
