@@ -7,14 +7,18 @@ ghost use lib.Dec.{ltb};
 ghost use Rattle.meaning.specs.Edition.{Proper};
 ghost use Rattle.meaning.specs.Shape.{leavesFor, total};
 
-// Refusal 11: whether more new blocks are needed than slots are free.
+// Refusal 11: whether more new blocks are needed than slots are free. A blob that gets no more leaves needs none, and is not priced.
 pub fn lacks_room(e: Edition, leaves: usize, long: u64, free: usize) -> bool
     requires { ⌜ Proper e ⌝ }
     requires { ⌜ (leaves ≤ 2 ^ 32) × (free ≤ 2 ^ 32) ⌝ }
     ensures { λ r. ⌜ r ≡ ltb free (total (e .fan) (leavesFor (e .leaf) long) - total (e .fan) leaves) ⌝ }
 {
+    let want = shape::leaf_count(e.leaf as u64, long);
+    if want <= leaves as u64 {
+        return false;
+    }
     let fan = e.fan as u64;
     let have = shape::block_total(fan, leaves as u64);
-    let need = shape::block_total(fan, shape::leaf_count(e.leaf as u64, long));
+    let need = shape::block_total(fan, want);
     have + (free as u64) < need
 }

@@ -1,5 +1,7 @@
--- Refusal 11 in numbers of 64 bits: the blocks that there are and the free slots together are fewer than the blocks wanted.
+-- Refusal 11 in numbers of 64 bits: there are more leaves wanted than there are, and the blocks that there are and the free slots together are fewer than
+-- the blocks wanted.
 use mathlib.Core.Path.{_≡_, sym, _∙_}
+use mathlib.Core.Bool.{false}
 use Prim.Native.Nat.{ℕ, suc, zero, _+_, _-_, _*_, _^_, _≤_, _<_}
 use native.Mathlib.Nat.{mul-le-mul-right}
 use native.Mathlib.Omega.{arith}
@@ -11,7 +13,7 @@ use Rattle.meaning.specs.declared.Edition.{Edition}
 use Rattle.meaning.specs.Edition.{Proper}
 use Rattle.meaning.specs.Shape.{leavesFor, total}
 use Rattle.laws.proofs.Inversions.{by-test}
-use Rattle.laws.proofs.Totals.{total-le, leaves-zero, leaves-tight}
+use Rattle.laws.proofs.Totals.{total-le, total-mono, leaves-zero, leaves-tight}
 
 -- the leaves of a length of 64 bits are few enough to be totalled
 pub leaves-few : (e : Edition) → Proper e → (len : ℕ) → len < 2 ^ 64 → leavesFor (e .leaf) len ≤ 2 ^ 62
@@ -25,6 +27,13 @@ leaves-few e p (suc len) less =
 -- so that they may be
 pub leaves-totalled : (e : Edition) → Proper e → (len want : ℕ) → Fits w64 len → want ≡ leavesFor (e .leaf) len → want ≤ 2 ^ 62
 leaves-totalled e p len want fits is = let few = leaves-few e p len (omega (arith, fits .fits)) in omega arith
+
+-- no more leaves need no new block
+pub room-unasked : (e : Edition) → Proper e → (leaves len free want : ℕ) → want ≡ leavesFor (e .leaf) len → want ≤ leaves
+    → false ≡ ltb free (total (e .fan) (leavesFor (e .leaf) len) - total (e .fan) leaves)
+room-unasked e p leaves len free want ew few =
+    sym (le-ltb free (total (e .fan) (leavesFor (e .leaf) len) - total (e .fan) leaves)
+    (omega (arith, total-mono (e .fan) (leavesFor (e .leaf) len) leaves (p .two) (omega arith))))
 
 -- the blocks that there are and the free slots fit
 pub room-fits : (e : Edition) → Proper e → (leaves free have : ℕ) → have ≡ total (e .fan) leaves → leaves ≤ 2 ^ 32 → free ≤ 2 ^ 32 → Fits w64 (have + free)
