@@ -2,7 +2,7 @@
 -- computes; that the rule then holds at each row is one law, for any rule and any number of rows.
 use mathlib.Core.Path.{_≡_, ap, _∙_, sym}
 use mathlib.Core.List.{List, map}
-use Prim.Native.Nat.{ℕ, zero, suc, _+_, _-_, _≤_, _<_}
+use Prim.Native.Nat.{ℕ, zero, suc, _+_, _<_}
 use native.Mathlib.Nat.{add-zero, add-suc, suc-add}
 use native.Mathlib.Omega.{arith}
 use lib.ListN.{getD}
@@ -15,7 +15,6 @@ row-of rule from zero k h = absurd (omega arith)
 row-of rule from (suc rows) zero h = ap rule (sym (add-zero from))
 row-of rule from (suc rows) (suc k) h = row-of rule (suc from) rows k (omega arith) ∙ ap rule (omega arith)
 
--- row n - 1 of a sheet that is what a rule gives for 1, 2, .. is what it gives for n
-pub row-right : (rule : ℕ → ℕ) (rows : ℕ) {sheet : List ℕ} → sheet ≡ map rule (range 1 rows) → (n : ℕ) → 1 ≤ n → n ≤ rows → getD sheet (n - 1) 0 ≡ rule n
-row-right rule rows right n some few =
-    ap (λ (l : List ℕ). getD l (n - 1) 0) right ∙ (row-of rule 1 rows (n - 1) (omega arith) ∙ ap rule (omega arith))
+-- row k of a sheet that is what a rule gives for 1, 2, .. is what it gives for k + 1
+pub row-right : (rule : ℕ → ℕ) (rows : ℕ) {sheet : List ℕ} → sheet ≡ map rule (range 1 rows) → (k : ℕ) → k < rows → getD sheet k 0 ≡ rule (k + 1)
+row-right rule rows right k h = ap (λ (l : List ℕ). getD l k 0) right ∙ (row-of rule 1 rows k h ∙ ap rule (omega arith))

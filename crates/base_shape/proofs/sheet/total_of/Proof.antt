@@ -1,30 +1,35 @@
--- `base_shape::sheet::total_of` meets its contract: the sheet as it stands in the code is the list of the totals of 1 to 937, computed once, and so each of
--- its rows is one of them.
-use mathlib.Core.Path.{refl}
+-- `base_shape::sheet::total_of` meets its contract: n leaves have the row n - 1.
+use mathlib.Core.Path.{_≡_, ap, _∙_}
+use Prim.Native.Nat.{ℕ, _+_, _-_, _≤_}
 use native.Mathlib.Omega.{arith}
 use borrow.Author.Needs.{needs}
-use Rattle.meaning.specs.Lists.{pick, range}
-use Rattle.meaning.specs.Shape.{up, totalWithin, total}
-use Rattle.laws.proofs.Totals.{total-le}
-use Rattle.base_shape.proofs.sheet.SettledOnce.{row-right}
+use Rattle.meaning.specs.Shape.{total}
 use Rattle.base_shape.proofs.sheet.total_of.Statement.{statement}
 use Rattle.base_shape.proofs.sheet.total_of.Tie as tie
 
-sub-result : tie.Need-sub-result
-sub-result c = search needs
+-- the row before it, counted from none, is that of n leaves
+own-row : (n r : ℕ) → 1 ≤ n → r ≡ total 12 (n - 1 + 1) → r ≡ total 12 n
+own-row n r some row = row ∙ ap (total 12) (omega arith)
 
-mul-result : tie.Need-mul-result
-mul-result c = search needs
+sub-early-row : tie.Need-sub-early-row
+sub-early-row c = search needs
 
-array-read-result : tie.Need-array-read-result
-array-read-result c = search needs
+early-row-requires : tie.Need-early-row-requires
+early-row-requires c κs = search needs
 
 returns : tie.Need-returns
-unfolding range total totalWithin up pick
-returns c = row-right (total 12) 937 refl (c .args .n) (omega arith) (omega arith)
+returns c = search own-row
 
-cast-result : tie.Need-cast-result
-cast-result c = record { fits = omega (arith, returns c, total-le 12 (c .args .n) (omega arith)) }
+sub-any-row : tie.Need-sub-any-row
+sub-any-row c = search needs
+
+any-row-requires : tie.Need-any-row-requires
+any-row-requires c κs = search needs
+
+returns-2 : tie.Need-returns-2
+returns-2 c = search own-row
 
 pub total-of-spec : {M : Type 1} → statement M
-total-of-spec = tie.close (tie.spec sub-result mul-result array-read-result cast-result returns)
+total-of-spec =
+    tie.close
+    (tie.spec sub-early-row early-row-requires returns sub-any-row any-row-requires returns-2)
