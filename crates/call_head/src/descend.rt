@@ -20,7 +20,20 @@ pub fn child_at(e: Edition, pool: &[u8], s: usize, i: usize) -> usize
     0
 }
 
-// The descent by position: the slot of the j-th block that lies d heights below the root.
+// The descent for any number of heights, from a block to its child.
+fn far_below(e: Edition, pool: &[u8], d: usize, root: usize, j: usize) -> usize
+    requires { ⌜ Proper e ⌝ }
+    ensures { λ r. ⌜ r ≡ below e (now (pool .entry)) d root j ⌝ }
+{
+    if d == 0 {
+        return root;
+    }
+    let parent = far_below(e, pool, d - 1, root, j / e.fan);
+    child_at(e, pool, parent, j % e.fan)
+}
+
+// The descent by position: the slot of the j-th block that lies d heights below the root. Up to two heights, all that edition one has above a row of
+// leaves, are taken here and not by `far_below`, which calls itself: here the compiler knows the edition's numbers, and divides by none.
 pub fn slot_below(e: Edition, pool: &[u8], d: usize, root: usize, j: usize) -> usize
     requires { ⌜ Proper e ⌝ }
     ensures { λ r. ⌜ r ≡ below e (now (pool .entry)) d root j ⌝ }
@@ -28,8 +41,14 @@ pub fn slot_below(e: Edition, pool: &[u8], d: usize, root: usize, j: usize) -> u
     if d == 0 {
         return root;
     }
-    let parent = slot_below(e, pool, d - 1, root, j / e.fan);
-    child_at(e, pool, parent, j % e.fan)
+    if d == 1 {
+        return child_at(e, pool, root, j % e.fan);
+    }
+    if d == 2 {
+        let parent = child_at(e, pool, root, j / e.fan % e.fan);
+        return child_at(e, pool, parent, j % e.fan);
+    }
+    far_below(e, pool, d, root, j)
 }
 
 // A root's height, at most the edition's.

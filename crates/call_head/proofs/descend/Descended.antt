@@ -64,3 +64,12 @@ module _ (e : Edition) (P : List ℕ) (d r j : ℕ) where
   one-lower n q eq x ex =
       let k : d ≡ suc (d - 1) = omega arith in
       rw k (ex ∙ rw eq)
+
+  -- one height and two, at once
+  pub one-below : d ≡ 1 → (x : ℕ) → x ≡ childAt e P r (j % e .fan) → x ≡ below e P d r j
+  unfolding below
+  one-below o x ex = ex ∙ rw o
+
+  pub two-below : d ≡ 2 → (q : ℕ) → q ≡ childAt e P r (j / e .fan % e .fan) → (x : ℕ) → x ≡ childAt e P q (j % e .fan) → x ≡ below e P d r j
+  unfolding below
+  two-below o q eq x ex = ex ∙ rw (o, eq)
