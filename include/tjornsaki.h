@@ -12,7 +12,8 @@
  *   - no other thread touches them during the call.
  * A function keeps no pointer and nothing else between calls, takes no memory from the heap, and calls nothing but C's memset and memcpy.
  * It needs at most TJ_STACK bytes of stack: its own rows have a place for each of 1,024 slots, ten bytes a slot in write, resize and delete, five
- * in length, read, show and opening a head, one in create and audit, none in tj_next; and the walk is never deeper than four blocks.
+ * in length, read, show and opening a head, one in create and audit, none in tj_next; resize also has a sheet of 937 numbers there, two bytes each;
+ * and the walk is never deeper than four blocks.
  * tests/c/stack.c measures each call on a pool that one blob fills.
  *
  * Every function leaves eight numbers in answer, whatever was there before:

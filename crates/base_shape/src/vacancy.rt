@@ -7,7 +7,7 @@ ghost use lib.Dec.{ltb};
 ghost use Rattle.meaning.specs.Edition.{Proper};
 ghost use Rattle.meaning.specs.Shape.{leavesFor, total};
 
-// Refusal 11: whether more new blocks are needed than slots are free. A blob that gets no more leaves needs none, and is not priced.
+// Refusal 11: whether more new blocks are needed than slots are free. A blob that gets no more leaves needs none, and no block total is asked for.
 pub fn lacks_room(e: Edition, leaves: usize, long: u64, free: usize) -> bool
     requires { ⌜ Proper e ⌝ }
     requires { ⌜ (leaves ≤ 2 ^ 32) × (free ≤ 2 ^ 32) ⌝ }

@@ -1,5 +1,5 @@
 //! The rows of the paper's "Numbers to try" that can be run, its whole example,
-//! and every refusal, through the crate.
+//! every count of leaves, and every refusal, through the crate.
 
 use tjornsaki::{audit, create, delete, length, read, resize, room, show, wipe, write, Refusal};
 
@@ -59,26 +59,33 @@ fn block_totals() {
 }
 
 /// The paper's rule for the block total of so many leaves.
-fn block_total(leaves: u64) -> u64 {
+fn paper_total(leaves: u64) -> u64 {
     match leaves {
         1 => 1,
-        n => n + block_total((n + 11) / 12),
+        n => n + paper_total((n + 11) / 12),
     }
 }
 
-/// Every row of the library's sheet: a blob of that many leaves fits a pool of
-/// its block total, and lacks room in one of a slot less.
+/// An empty blob in a pool of so many slots made as long as so many leaves.
+fn lengthened(slots: u64, leaves: u64) -> Result<Store, Refusal> {
+    let (mut pool, mut records) = with_blob(slots as usize, 0);
+    resize(&mut pool, &mut records, 0, 48 * leaves)?;
+    Ok((pool, records))
+}
+
+/// Every row of the library's sheet: that many leaves fit a pool of their block
+/// total, and lack room in one of a slot less. The first row is the empty
+/// blob's: it is in every price.
 #[test]
 fn every_count_of_leaves_has_its_price() {
     for leaves in 2..=937 {
-        let blocks = block_total(leaves);
-        let (pool, records) = with_blob(blocks as usize, 48 * leaves);
-        assert_eq!(audit(&pool, &records), Ok(blocks), "{} leaves", leaves);
-        let (mut pool, mut records) = with_blob(blocks as usize - 1, 0);
-        let refused = resize(&mut pool, &mut records, 0, 48 * leaves);
-        assert_eq!(refused, Err(no(11, None)), "{} leaves", leaves);
+        let blocks = paper_total(leaves);
+        let audited = lengthened(blocks, leaves).and_then(|(pool, records)| audit(&pool, &records));
+        assert_eq!(audited, Ok(blocks), "{} leaves", leaves);
+        let lacking = lengthened(blocks - 1, leaves);
+        assert_eq!(lacking, Err(no(11, None)), "{} leaves", leaves);
     }
-    assert_eq!(block_total(937), 1_024);
+    assert_eq!(paper_total(937), 1_024);
 }
 
 #[test]

@@ -26,9 +26,9 @@ abbrev block-total-below : ℕ → In 0 block-total-kinds.ps
 block-total-below t =
     and 0 block-total-kinds.ps (falls 0 block-total-kinds.ps _<_ μ-block-total t) block-total.Pre
 
--- the sheet is the given fan-out's
+-- where the fan-out is 12, a total at 12 is one at the fan-out
 read-off : (fan n r : ℕ) → fan ≡ 12 → r ≡ total 12 n → r ≡ total fan n
-read-off fan n r twelve is = rw twelve is
+read-off fan n r twelve row = rw twelve row
 
 block-total-total-of-requires : (t : ℕ) → block-total-lts.Need-total-of-requires (
   total-of-reads.Asked,
