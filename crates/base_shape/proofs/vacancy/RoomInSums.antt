@@ -1,5 +1,5 @@
--- Refusal 11 in numbers of 64 bits: there are more leaves wanted than there are, and the blocks that there are and the free slots together are fewer than
--- the blocks wanted.
+-- Refusal 11 in numbers of 64 bits: more leaves are wanted than there are, and the blocks that there are and the free slots together are fewer than the
+-- blocks wanted.
 use mathlib.Core.Path.{_≡_, sym, _∙_}
 use mathlib.Core.Bool.{false}
 use Prim.Native.Nat.{ℕ, suc, zero, _+_, _-_, _*_, _^_, _≤_, _<_}

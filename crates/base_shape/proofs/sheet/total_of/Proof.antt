@@ -7,7 +7,7 @@ use Rattle.meaning.specs.Shape.{total}
 use Rattle.base_shape.proofs.sheet.total_of.Statement.{statement}
 use Rattle.base_shape.proofs.sheet.total_of.Tie as tie
 
--- the row before it, counted from none, is that of n leaves
+-- row n - 1 is that of n leaves
 own-row : (n r : ℕ) → 1 ≤ n → r ≡ total 12 (n - 1 + 1) → r ≡ total 12 n
 own-row n r some row = row ∙ ap (total 12) (omega arith)
 
