@@ -951,7 +951,7 @@ fn any_row(i: u64) -> u64
     TOTALS[i as usize] as u64
 }
 
-// One of the first 64 rows. The remainder changes nothing, but tells the compiler that no other row is read, and it writes none.
+// One of the first 64 rows. The remainder changes nothing, but tells the compiler that no other row is read, and it writes these 64 alone.
 fn early_row(i: u64) -> u64
     requires { ⌜ i < 64 ⌝ }
     ensures { λ r. ⌜ r ≡ total 12 (i + 1) ⌝ }

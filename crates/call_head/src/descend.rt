@@ -32,8 +32,9 @@ fn far_below(e: Edition, pool: &[u8], d: usize, root: usize, j: usize) -> usize
     child_at(e, pool, parent, j % e.fan)
 }
 
-// The descent by position: the slot of the j-th block that lies d heights below the root. Up to two heights, all that edition one has above a row of
-// leaves, are taken here and not by `far_below`, which calls itself: here the compiler knows the edition's numbers, and divides by none.
+// The descent by position: the slot of the j-th block that lies d heights below the root. Up to two heights, the farthest that the parent of a row of
+// leaves lies below a root in edition one, are taken here and not by `far_below`, which calls itself: here the compiler knows the edition's numbers,
+// and divides by none.
 pub fn slot_below(e: Edition, pool: &[u8], d: usize, root: usize, j: usize) -> usize
     requires { ⌜ Proper e ⌝ }
     ensures { λ r. ⌜ r ≡ below e (now (pool .entry)) d root j ⌝ }
