@@ -12,6 +12,7 @@ ghost use Rattle.meaning.specs.Edition.{Proper};
 ghost use Rattle.meaning.specs.Calls.{auditIn, auditCall};
 ghost use Rattle.meaning.specs.Answers.{auditAnswer};
 ghost use Rattle.check_gate.specs.Gate.{Whole};
+ghost use Rattle.check_gate.specs.Places.{Clear};
 ghost use Rattle.call_audit.specs.Counting.{liveFrom};
 
 // How many of one slot are live: 1 or 0.
@@ -57,7 +58,7 @@ fn audit_in(
     }
 }
 
-// The whole call: refusals 1 and 2, then the audit. The flags have a place for every slot of the edition; no leaf is noted in the row.
+// The whole call: refusals 1 and 2, then the audit. The flags have a place for each slot of the pool; no leaf is noted in the row.
 pub fn audit_call(
     e: Edition,
     pool: &[u8],
@@ -66,7 +67,7 @@ pub fn audit_call(
     row: &mut [u32],
 ) -> Audit
     requires { ⌜ Proper e ⌝ }
-    requires { ⌜ now seen ≡ replicate (e .most) 0 ⌝ }
+    requires { ⌜ Clear e (now pool) (now seen) ⌝ }
     ensures { λ r. ⌜ r ≡ auditAnswer (auditCall e (now (pool .entry)) (now (records .entry))) ⌝ }
 {
     match check_gate::open(e, pool, records) {

@@ -11,6 +11,7 @@ ghost use Rattle.meaning.specs.Edition.{Proper};
 ghost use Rattle.meaning.specs.Calls.{createIn, createCall};
 ghost use Rattle.meaning.specs.Answers.{createAnswer, Ends};
 ghost use Rattle.check_gate.specs.Gate.{Whole};
+ghost use Rattle.check_gate.specs.Places.{Clear};
 
 // The pool check, then the new blob.
 fn create_in(
@@ -33,7 +34,7 @@ fn create_in(
     }
 }
 
-// The whole call: refusals 1 and 2, then the pool check and the new blob. The flags have a place for every slot of the edition.
+// The whole call: refusals 1 and 2, then the pool check and the new blob. The flags have a place for each slot of the pool.
 pub fn create_call(
     e: Edition,
     pool: &mut [u8],
@@ -43,7 +44,7 @@ pub fn create_call(
     scratch: &mut [u8],
 ) -> Created
     requires { ⌜ Proper e ⌝ }
-    requires { ⌜ (now seen ≡ replicate (e .most) 0) × (length (now scratch) ≡ e .size) ⌝ }
+    requires { ⌜ Clear e (now pool) (now seen) × (length (now scratch) ≡ e .size) ⌝ }
     ensures { λ r. ⌜ Ends e createAnswer (createCall e (now (pool .entry)) (now (records .entry))) (now (pool .entry)) (now (records .entry)) r (now (pool .exit)) (now (records .exit)) ⌝ }
 {
     match check_gate::open(e, pool, records) {

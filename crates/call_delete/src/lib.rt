@@ -24,7 +24,7 @@ pub fn delete_call(
     root: u64,
 ) -> Changed
     requires { ⌜ Proper e ⌝ }
-    requires { ⌜ Rows e (now seen) (now row) (now heights) (now firsts) ⌝ }
+    requires { ⌜ Rows e (now pool) (now seen) (now row) (now heights) (now firsts) ⌝ }
     requires { ⌜ length (now scratch) ≡ e .size ⌝ }
     ensures { λ r. ⌜ Ends e changeAnswer (deleteCall e (now (pool .entry)) (now (records .entry)) root) (now (pool .entry)) (now (records .entry)) r (now (pool .exit)) (now (records .exit)) ⌝ }
 {

@@ -4,11 +4,13 @@ use check_gate::Opened;
 use meaning::Edition;
 use meaning::Length;
 ghost use mathlib.Core.Path.{_≡_};
+ghost use Prim.Native.Nat.{_≤_};
 ghost use lib.ListN.{length, replicate};
 ghost use Rattle.meaning.specs.Edition.{Proper};
-ghost use Rattle.meaning.specs.Calls.{lengthIn, lengthCall};
+ghost use Rattle.meaning.specs.Calls.{slotsIn, lengthIn, lengthCall};
 ghost use Rattle.meaning.specs.Answers.{lengthAnswer};
 ghost use Rattle.check_gate.specs.Gate.{Whole};
+ghost use Rattle.check_gate.specs.Places.{Clear};
 
 // Refusal 3 and the blob check, then the length.
 fn length_in(
@@ -31,7 +33,7 @@ fn length_in(
     }
 }
 
-// The whole call: refusals 1 and 2, then the length. Flags and row have a place for every slot of the edition.
+// The whole call: refusals 1 and 2, then the length. Flags and row have a place for each slot of the pool.
 pub fn length_call(
     e: Edition,
     pool: &[u8],
@@ -41,7 +43,7 @@ pub fn length_call(
     root: u64,
 ) -> Length
     requires { ⌜ Proper e ⌝ }
-    requires { ⌜ (now seen ≡ replicate (e .most) 0) × (length (now row) ≡ e .most) ⌝ }
+    requires { ⌜ Clear e (now pool) (now seen) × (slotsIn e (now pool) ≤ length (now row)) ⌝ }
     ensures { λ r. ⌜ r ≡ lengthAnswer (lengthCall e (now (pool .entry)) (now (records .entry)) root) ⌝ }
 {
     match check_gate::open(e, pool, records) {

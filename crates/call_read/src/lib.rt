@@ -9,9 +9,10 @@ ghost use mathlib.Core.Path.{_≡_};
 ghost use Prim.Native.Nat.{_*_, _≤_};
 ghost use lib.ListN.{length, take, replicate};
 ghost use Rattle.meaning.specs.Edition.{Proper};
-ghost use Rattle.meaning.specs.Calls.{readIn, readCall};
+ghost use Rattle.meaning.specs.Calls.{slotsIn, readIn, readCall};
 ghost use Rattle.meaning.specs.Answers.{Reads};
 ghost use Rattle.check_gate.specs.Gate.{Whole};
+ghost use Rattle.check_gate.specs.Places.{Clear};
 ghost use Rattle.call_read.specs.copy.{spelt, Readable, readSpelt};
 
 // Refusal 10, or the whole output filled: of a blob of so many bytes, whose leaves lie in the row's first k slots.
@@ -64,7 +65,7 @@ fn read_in(
     }
 }
 
-// The whole call: refusals 1 and 2, then the read. Flags and row have a place for every slot of the edition.
+// The whole call: refusals 1 and 2, then the read. Flags and row have a place for each slot of the pool.
 pub fn read_call(
     e: Edition,
     pool: &[u8],
@@ -76,7 +77,7 @@ pub fn read_call(
     out: &mut [u8],
 ) -> Finished
     requires { ⌜ Proper e ⌝ }
-    requires { ⌜ (now seen ≡ replicate (e .most) 0) × (length (now row) ≡ e .most) ⌝ }
+    requires { ⌜ Clear e (now pool) (now seen) × (slotsIn e (now pool) ≤ length (now row)) ⌝ }
     ensures { λ r. ⌜ Reads (readCall e (now (pool .entry)) (now (records .entry)) root offset (length (now (out .entry)))) r (now (out .entry)) (now (out .exit)) ⌝ }
 {
     match check_gate::open(e, pool, records) {

@@ -2,6 +2,7 @@
 use mathlib.Core.Path.{_≡_, refl, _∙_}
 use mathlib.Core.List.{List}
 use Prim.Native.Nat.{ℕ}
+use native.Mathlib.Omega.{arith}
 use lib.ListN.{length}
 use Rattle.meaning.specs.Calls.{slotsIn, resizeOn, resizeIn, resizeCall}
 use Rattle.meaning.specs.Answers.{changeAnswer, Ends}
@@ -33,8 +34,8 @@ module _ (e : Edition) (P R : List ℕ) (r : ℕ) (y : Reached) (row hs fs : Lis
     resize-found = record { row = front n row; known = here .known }
 
     -- the row of slots has its n places
-    pub resize-row : (seen row₀ hs₀ fs₀ : List ℕ) → Rows e seen row₀ hs₀ fs₀ → length row ≡ length row₀ → length (front n row) ≡ n
-    resize-row seen row₀ hs₀ fs₀ g l = row-lent e P R (gate e P R) refl n (here .gated) row (l ∙ g .rows)
+    pub resize-row : (seen row₀ hs₀ fs₀ : List ℕ) → Rows e P seen row₀ hs₀ fs₀ → length row ≡ length row₀ → length (front n row) ≡ n
+    resize-row seen row₀ hs₀ fs₀ g l = row-lent e P R (gate e P R) refl n (here .gated) row (omega (arith, l, g .rows))
 
     -- behind refusals 1 and 2 the call is this
     pub resize-ends : (len : ℕ) (a : Changed) (P′ R′ : List ℕ) → Ends e changeAnswer (resizeIn e n P R r len) P R a P′ R′

@@ -28,7 +28,7 @@ pub fn resize_call(
     len: u64,
 ) -> Changed
     requires { ⌜ Proper e ⌝ }
-    requires { ⌜ Rows e (now seen) (now row) (now heights) (now firsts) ⌝ }
+    requires { ⌜ Rows e (now pool) (now seen) (now row) (now heights) (now firsts) ⌝ }
     requires { ⌜ Drafts e (now kept) (now payload) (now scratch) ⌝ }
     ensures { λ r. ⌜ Ends e changeAnswer (resizeCall e (now (pool .entry)) (now (records .entry)) root len) (now (pool .entry)) (now (records .entry)) r (now (pool .exit)) (now (records .exit)) ⌝ }
 {

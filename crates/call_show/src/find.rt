@@ -5,11 +5,13 @@ use check_gate::Opened;
 use meaning::Edition;
 use meaning::Leaf;
 ghost use mathlib.Core.Path.{_≡_};
+ghost use Prim.Native.Nat.{_≤_};
 ghost use lib.ListN.{length, replicate};
 ghost use Rattle.meaning.specs.Edition.{Proper};
-ghost use Rattle.meaning.specs.Calls.{showIn, showCall};
+ghost use Rattle.meaning.specs.Calls.{slotsIn, showIn, showCall};
 ghost use Rattle.meaning.specs.Answers.{leafAnswer};
 ghost use Rattle.check_gate.specs.Gate.{Whole};
+ghost use Rattle.check_gate.specs.Places.{Clear};
 ghost use Rattle.call_show.specs.place.{Lies};
 
 // Refusal 3 and the blob check, then the leaf's place.
@@ -35,7 +37,7 @@ fn find_leaf_in(
     }
 }
 
-// The whole call: refusals 1 and 2, then the leaf's place. Flags and row have a place for every slot of the edition.
+// The whole call: refusals 1 and 2, then the leaf's place. Flags and row have a place for each slot of the pool.
 pub fn find_leaf_call(
     e: Edition,
     pool: &[u8],
@@ -46,7 +48,7 @@ pub fn find_leaf_call(
     i: u64,
 ) -> Leaf
     requires { ⌜ Proper e ⌝ }
-    requires { ⌜ (now seen ≡ replicate (e .most) 0) × (length (now row) ≡ e .most) ⌝ }
+    requires { ⌜ Clear e (now pool) (now seen) × (slotsIn e (now pool) ≤ length (now row)) ⌝ }
     ensures { λ r. ⌜ r ≡ leafAnswer e (showCall e (now (pool .entry)) (now (records .entry)) root i) ⌝ }
     ensures { λ r. ⌜ Lies r (length (now (pool .entry))) ⌝ }
 {

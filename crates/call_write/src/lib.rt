@@ -26,7 +26,7 @@ pub fn write_call(
 ) -> Changed
     requires { ⌜ Proper e ⌝ }
     requires { ⌜ e .size ≡ 16 + e .leaf ⌝ }
-    requires { ⌜ Rows e (now seen) (now row) (now heights) (now firsts) ⌝ }
+    requires { ⌜ Rows e (now pool) (now seen) (now row) (now heights) (now firsts) ⌝ }
     ensures { λ r. ⌜ Ends e changeAnswer (writeCall e (now (pool .entry)) (now (records .entry)) root offset (now (src .entry))) (now (pool .entry)) (now (records .entry)) r (now (pool .exit)) (now (records .exit)) ⌝ }
 {
     match check_survey::reach(e, pool, records, seen, row, heights, firsts, root) {

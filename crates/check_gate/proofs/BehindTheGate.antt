@@ -145,6 +145,9 @@ module _ (e : Edition) (P R : List ℕ) (x : Opened) (ex : x ≡ gate e P R) whe
     unfolding gate opened
     found = slots-sized (sized e P R) _ n (slotsIn e P) (slots-records R (slotsIn e P) n (range 0 (slotsIn e P))) (sym ex ∙ en)
 
+    pub gate-slots : n ≡ slotsIn e P
+    gate-slots = found .1
+
     pub gate-whole : Whole e n P R
     gate-whole = rw (found .1) (sized-whole e P R (found .0))
 

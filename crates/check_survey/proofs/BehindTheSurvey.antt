@@ -17,7 +17,7 @@ use Rattle.meaning.specs.declared.Changed.the-variants as changedCase
 use Rattle.check_gate.specs.Gate.{gate}
 use Rattle.check_gate.specs.declared.Opened.{Opened}
 use Rattle.check_gate.specs.declared.Opened.the-variants.{Slots, Refused}
-use Rattle.check_gate.proofs.BehindTheGate.{gate-whole, gate-behind, gate-barred}
+use Rattle.check_gate.proofs.BehindTheGate.{gate-slots, gate-whole, gate-behind, gate-barred}
 use Rattle.check_blob.specs.declared.notes.Walked.{Walked}
 use Rattle.check_blob.specs.declared.notes.Walked.the-variants.{Fault, Fine}
 use Rattle.check_blob.proofs.Lending.{row-reaches, row-lent, flags-reach, flags-lent}
@@ -42,7 +42,7 @@ module _ (e : Edition) (P R : List ℕ) (x : Opened) (ex : x ≡ gate e P R) (r 
 
   module _ (n : ℕ) (en : x ≡ Slots n) where
     -- the rows' first places are lent
-    module _ (seen row hs fs : List ℕ) (g : Rows e seen row hs fs) where
+    module _ (seen row hs fs : List ℕ) (g : Rows e P seen row hs fs) where
       pub reach-room : Room e n P R (front n seen) (front n row) (front n hs) (front n fs)
       reach-room =
           record {
@@ -72,7 +72,7 @@ module _ (e : Edition) (P R : List ℕ) (x : Opened) (ex : x ≡ gate e P R) (r 
           let u : (f : Blob → Outcome (Unit {0})) → changing e n P R r f ≡ refused q = rw eq at s in
           λ f. gate-behind e P R x ex n en (λ m. changing e m P R r f) ∙ u f
 
-      pub reach-blob : (len k : ℕ) → w ≡ Fine len k → (seen row hs fs : List ℕ) → Rows e seen row hs fs → length row₁ ≡ length (front n row)
+      pub reach-blob : (len k : ℕ) → w ≡ Fine len k → (seen row hs fs : List ℕ) → Rows e P seen row hs fs → length row₁ ≡ length (front n row)
           → Reaches e P R r (reached.Blob n len k) (putMid 0 (n - 0) row row₁) (putMid 0 (n - 0) hs hs₁) (putMid 0 (n - 0) fs fs₁)
       unfolding Reaches Rooted
       reach-blob len k ek seen row hs fs rows lr =
@@ -106,8 +106,8 @@ module _ (e : Edition) (P R : List ℕ) (r : ℕ) (y : Reached) (row hs fs : Lis
     pub noted-firsts : n ≤ length fs
     noted-firsts = front-within n fs (reached-blob .known .firsts)
 
-    pub noted-row : (seen row₀ hs₀ fs₀ : List ℕ) → Rows e seen row₀ hs₀ fs₀ → length row ≡ length row₀ → n ≤ length row
-    noted-row seen row₀ hs₀ fs₀ g l = omega (arith, l, g .rows, reached-blob .whole .few)
+    pub noted-row : (seen row₀ hs₀ fs₀ : List ℕ) → Rows e P seen row₀ hs₀ fs₀ → length row ≡ length row₀ → n ≤ length row
+    noted-row seen row₀ hs₀ fs₀ g l = omega (arith, l, g .rows, gate-slots e P R (gate e P R) refl n (reached-blob .gated))
 
     -- where the call is what it is behind refusals 1 and 2
     pub reached-opened : {A : Type 0} (f : ℕ → Outcome A) → opened e P R (f (slotsIn e P)) ≡ f n

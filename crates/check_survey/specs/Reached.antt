@@ -1,23 +1,24 @@
 -- What the calls that change one blob share: refusals 1, 2 and 3, the pool check, and where the blob's blocks stand.
 use mathlib.Core.Path.{_≡_}
 use mathlib.Core.List.{List}
-use Prim.Native.Nat.{ℕ, _-_}
-use lib.ListN.{length, take, drop, replicate}
+use Prim.Native.Nat.{ℕ, _-_, _≤_}
+use lib.ListN.{length, take, drop}
 use Rattle.meaning.specs.declared.Edition.{Edition}
 use Rattle.meaning.specs.Tree.{Blob}
 use Rattle.meaning.specs.Calls.{Outcome, refused, slotsIn, opened, changing}
 use Rattle.check_gate.specs.Gate.{Whole, gate}
+use Rattle.check_gate.specs.Places.{Clear}
 use Rattle.check_gate.specs.declared.Opened.the-variants.{Slots}
 use Rattle.check_survey.specs.sites.Known.{Known}
 use Rattle.check_survey.specs.declared.Reached.{Reached}
 use Rattle.check_survey.specs.declared.Reached.the-variants as reached
 
--- the rows that such a call is lent: a place for each slot that there may be; flags and heights start at zero
-pub record Rows (e : Edition) (seen row heights firsts : List ℕ) : Type 0 where
-  pub unseen : seen ≡ replicate (e .most) 0
-  pub rows : length row ≡ e .most
-  pub flat : heights ≡ replicate (e .most) 0
-  pub begins : length firsts ≡ e .most
+-- the rows that such a call is lent: a place for each slot of the pool; flags and heights start at zero
+pub record Rows (e : Edition) (P seen row heights firsts : List ℕ) : Type 0 where
+  pub unseen : Clear e P seen
+  pub rows : slotsIn e P ≤ length row
+  pub flat : Clear e P heights
+  pub begins : slotsIn e P ≤ length firsts
 
 -- the first n places of a row, as they are lent
 abbrev pub front : ℕ → List ℕ → List ℕ

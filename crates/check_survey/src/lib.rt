@@ -30,7 +30,7 @@ pub fn reach(
     root: u64,
 ) -> Reached
     requires { ⌜ Proper e ⌝ }
-    requires { ⌜ Rows e (now seen) (now row) (now heights) (now firsts) ⌝ }
+    requires { ⌜ Rows e (now pool) (now seen) (now row) (now heights) (now firsts) ⌝ }
     ensures { λ r. ⌜ Reaches e (now (pool .entry)) (now (records .entry)) root r (now (row .exit)) (now (heights .exit)) (now (firsts .exit)) ⌝ }
 {
     match check_gate::open(e, pool, records) {

@@ -7,7 +7,7 @@ use Rattle.meaning.specs.declared.Edition.{Edition}
 
 -- edition one: document 01's numbers
 unfoldable pub one : Edition
-one = record { mark = 0x4c ∷ 0x31 ∷ []; size = 64; leaf = 48; fan = 12; top = 3; most = 1024 }
+one = record { mark = 0x4c ∷ 0x31 ∷ []; size = 64; leaf = 48; fan = 12; top = 5; most = 65536 }
 
 -- What an edition owes: its mark is two bytes, the first of which no block of zeros has; a payload's count and a height are one byte each; an inner
 -- block's children fill the payload; header and payload fit the block; every pool's largest blob is at most top high; a slot number has four bytes.

@@ -28,8 +28,8 @@ pub fn edition_one() -> Edition
         size: 64,
         leaf: 48,
         fan: 12,
-        top: 3,
-        most: 1024,
+        top: 5,
+        most: 65536,
     }
 }
 

@@ -1,36 +1,14 @@
--- Resize at edition one, with rows and drafts of its own.
-use Rattle.store.proofs.reads.Opening.{one-here}
-use Rattle.store.proofs.Changing.{rows-here, drafts-here, resize-one}
+-- The change of one blob that is named so.
+use Rattle.rows_change.proofs.ChangeAsCall.{is-resize}
 use borrow.Author.Needs.{needs}
 use Rattle.store.proofs.changes.resize.Statement.{statement}
 use Rattle.store.proofs.changes.resize.Tie as tie
 
-edition-one-requires : tie.Need-edition-one-requires
-edition-one-requires c κs = search needs
+slice-aggregate-change-blob : tie.Need-slice-aggregate-change-blob
+slice-aggregate-change-blob c = search needs
 
-slice-aggregate-resize-call : tie.Need-slice-aggregate-resize-call
-slice-aggregate-resize-call c = search needs
-
-slice-aggregate-resize-call-2 : tie.Need-slice-aggregate-resize-call-2
-slice-aggregate-resize-call-2 c = search needs
-
-slice-aggregate-resize-call-3 : tie.Need-slice-aggregate-resize-call-3
-slice-aggregate-resize-call-3 c = search needs
-
-slice-aggregate-resize-call-4 : tie.Need-slice-aggregate-resize-call-4
-slice-aggregate-resize-call-4 c = search needs
-
-slice-aggregate-resize-call-5 : tie.Need-slice-aggregate-resize-call-5
-slice-aggregate-resize-call-5 c = search needs
-
-slice-aggregate-resize-call-6 : tie.Need-slice-aggregate-resize-call-6
-slice-aggregate-resize-call-6 c = search needs
-
-slice-aggregate-resize-call-7 : tie.Need-slice-aggregate-resize-call-7
-slice-aggregate-resize-call-7 c = search needs
-
-resize-call-requires : tie.Need-resize-call-requires
-resize-call-requires c κs = (search one-here, (search rows-here, search drafts-here))
+change-blob-requires : tie.Need-change-blob-requires
+change-blob-requires c κs = search needs
 
 same-length : tie.Need-same-length
 same-length c = search needs
@@ -39,21 +17,9 @@ same-length-2 : tie.Need-same-length-2
 same-length-2 c = search needs
 
 returns : tie.Need-returns
-returns c = search resize-one
+returns c = search is-resize
 
 pub resize-spec : {M : Type 1} → statement M
 resize-spec =
     tie.close
-    (tie.spec
-    edition-one-requires
-    slice-aggregate-resize-call
-    slice-aggregate-resize-call-2
-    slice-aggregate-resize-call-3
-    slice-aggregate-resize-call-4
-    slice-aggregate-resize-call-5
-    slice-aggregate-resize-call-6
-    slice-aggregate-resize-call-7
-    resize-call-requires
-    same-length
-    same-length-2
-    returns)
+    (tie.spec slice-aggregate-change-blob change-blob-requires same-length same-length-2 returns)

@@ -1,6 +1,6 @@
 -- Wipe at edition one.
-use Rattle.store.proofs.reads.Opening.{one-here}
-use Rattle.store.proofs.Changing.{wipe-one}
+use Rattle.rows_size.proofs.AtEditionOne.{one-here}
+use Rattle.store.proofs.Lengths.{wipe-one}
 use borrow.Author.Needs.{needs}
 use Rattle.store.proofs.changes.wipe.Statement.{statement}
 use Rattle.store.proofs.changes.wipe.Tie as tie

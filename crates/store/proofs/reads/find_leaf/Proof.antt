@@ -1,31 +1,42 @@
--- The leaf's place of any edition, in edition one.
-use Rattle.store.proofs.reads.Opening.{one-here, flags-here, long-here}
-use Rattle.store.proofs.reads.Answers.{leaf-one}
+-- Refusal 1, or the leaf's place in rows that suffice.
+use Rattle.store.proofs.Lengths.{most-slots, few-slots, no-leaf, no-place}
 use borrow.Author.Needs.{needs}
 use Rattle.store.proofs.reads.find_leaf.Statement.{statement}
 use Rattle.store.proofs.reads.find_leaf.Tie as tie
 
-edition-one-requires : tie.Need-edition-one-requires
-edition-one-requires c κs = search needs
+is-sized-requires : tie.Need-is-sized-requires
+is-sized-requires c κs = search needs
 
-slice-aggregate-find-leaf-call : tie.Need-slice-aggregate-find-leaf-call
-slice-aggregate-find-leaf-call c = search needs
-
-slice-aggregate-find-leaf-call-2 : tie.Need-slice-aggregate-find-leaf-call-2
-slice-aggregate-find-leaf-call-2 c = search needs
-
-find-leaf-call-requires : tie.Need-find-leaf-call-requires
-find-leaf-call-requires c κs = (search one-here, (search flags-here, search long-here))
+refuse-nowhere-requires : tie.Need-refuse-nowhere-requires
+refuse-nowhere-requires c κs = search needs
 
 returns : tie.Need-returns
-returns c = (search leaf-one, search needs)
+returns c = (search no-leaf, search no-place)
+
+slots-of-requires : tie.Need-slots-of-requires
+slots-of-requires c κs = search needs
+
+in-128-requires : tie.Need-in-128-requires
+in-128-requires c κs = search few-slots
+
+returns-2 : tie.Need-returns-2
+returns-2 c = search needs
+
+in-larger-requires : tie.Need-in-larger-requires
+in-larger-requires c κs = (search needs, search most-slots)
+
+returns-3 : tie.Need-returns-3
+returns-3 c = search needs
 
 pub find-leaf-spec : {M : Type 1} → statement M
 find-leaf-spec =
     tie.close
     (tie.spec
-    edition-one-requires
-    slice-aggregate-find-leaf-call
-    slice-aggregate-find-leaf-call-2
-    find-leaf-call-requires
-    returns)
+    is-sized-requires
+    refuse-nowhere-requires
+    returns
+    slots-of-requires
+    in-128-requires
+    returns-2
+    in-larger-requires
+    returns-3)

@@ -1,35 +1,50 @@
--- The read of any edition, in edition one.
-use Rattle.store.proofs.reads.Opening.{one-here, flags-here, long-here}
-use Rattle.store.proofs.reads.Answers.{read-one}
+-- Refusal 1, or the read in rows that suffice.
+use Rattle.store.proofs.Lengths.{most-slots, no-read}
 use borrow.Author.Needs.{needs}
 use Rattle.store.proofs.reads.read.Statement.{statement}
 use Rattle.store.proofs.reads.read.Tie as tie
 
-edition-one-requires : tie.Need-edition-one-requires
-edition-one-requires c κs = search needs
+is-sized-requires : tie.Need-is-sized-requires
+is-sized-requires c κs = search needs
 
-slice-aggregate-read-call : tie.Need-slice-aggregate-read-call
-slice-aggregate-read-call c = search needs
+refuse-nowhere-requires : tie.Need-refuse-nowhere-requires
+refuse-nowhere-requires c κs = search needs
 
-slice-aggregate-read-call-2 : tie.Need-slice-aggregate-read-call-2
-slice-aggregate-read-call-2 c = search needs
+returns : tie.Need-returns
+returns c = search no-read
 
-read-call-requires : tie.Need-read-call-requires
-read-call-requires c κs = (search one-here, (search flags-here, search long-here))
+slots-of-requires : tie.Need-slots-of-requires
+slots-of-requires c κs = search needs
+
+in-128-requires : tie.Need-in-128-requires
+in-128-requires c κs = search needs
 
 same-length : tie.Need-same-length
 same-length c = search needs
 
-returns : tie.Need-returns
-returns c = search read-one
+returns-2 : tie.Need-returns-2
+returns-2 c = search needs
+
+in-larger-requires : tie.Need-in-larger-requires
+in-larger-requires c κs = (search needs, search most-slots)
+
+same-length-2 : tie.Need-same-length-2
+same-length-2 c = search needs
+
+returns-3 : tie.Need-returns-3
+returns-3 c = search needs
 
 pub read-spec : {M : Type 1} → statement M
 read-spec =
     tie.close
     (tie.spec
-    edition-one-requires
-    slice-aggregate-read-call
-    slice-aggregate-read-call-2
-    read-call-requires
+    is-sized-requires
+    refuse-nowhere-requires
+    returns
+    slots-of-requires
+    in-128-requires
     same-length
-    returns)
+    returns-2
+    in-larger-requires
+    same-length-2
+    returns-3)

@@ -1,0 +1,71 @@
+// The audit at edition one, in rows with a place for each slot of the pool.
+use meaning::Audit;
+ghost use mathlib.Core.Path.{_≡_};
+ghost use Prim.Native.Nat.{_≤_};
+ghost use Rattle.meaning.specs.Edition.{one};
+ghost use Rattle.meaning.specs.Calls.{slotsIn, auditCall};
+ghost use Rattle.meaning.specs.Answers.{auditAnswer};
+ghost use Rattle.check_gate.specs.Places.{Clear};
+
+// In rows that are lent.
+fn in_lent(pool: &[u8], records: &[u8], seen: &mut [u8]) -> Audit
+    requires { ⌜ Clear one (now pool) (now seen) ⌝ }
+    ensures { λ r. ⌜ r ≡ auditAnswer (auditCall one (now (pool .entry)) (now (records .entry))) ⌝ }
+{
+    let e = meaning::edition_one();
+    let mut none = [0u32; 0];
+    call_audit::audit_call(e, pool, records, seen, &mut none)
+}
+
+// In rows of 128 places.
+pub fn in_128(pool: &[u8], records: &[u8]) -> Audit
+    requires { ⌜ slotsIn one (now pool) ≤ 128 ⌝ }
+    ensures { λ r. ⌜ r ≡ auditAnswer (auditCall one (now (pool .entry)) (now (records .entry))) ⌝ }
+{
+    let mut seen = [0u8; 128];
+    in_lent(pool, records, &mut seen)
+}
+
+// In rows of 1,024 places.
+fn in_1024(pool: &[u8], records: &[u8]) -> Audit
+    requires { ⌜ slotsIn one (now pool) ≤ 1024 ⌝ }
+    ensures { λ r. ⌜ r ≡ auditAnswer (auditCall one (now (pool .entry)) (now (records .entry))) ⌝ }
+{
+    let mut seen = [0u8; 1024];
+    in_lent(pool, records, &mut seen)
+}
+
+// In rows of 8,192 places.
+fn in_8192(pool: &[u8], records: &[u8]) -> Audit
+    requires { ⌜ slotsIn one (now pool) ≤ 8192 ⌝ }
+    ensures { λ r. ⌜ r ≡ auditAnswer (auditCall one (now (pool .entry)) (now (records .entry))) ⌝ }
+{
+    let mut seen = [0u8; 8192];
+    in_lent(pool, records, &mut seen)
+}
+
+// In rows of 65,536 places.
+fn in_65536(pool: &[u8], records: &[u8]) -> Audit
+    requires { ⌜ slotsIn one (now pool) ≤ 65536 ⌝ }
+    ensures { λ r. ⌜ r ≡ auditAnswer (auditCall one (now (pool .entry)) (now (records .entry))) ⌝ }
+{
+    let mut seen = [0u8; 65536];
+    in_lent(pool, records, &mut seen)
+}
+
+// In rows of that many places, or of the next size that suffices: 1,024, 8,192 or 65,536.
+pub fn in_larger(places: usize, pool: &[u8], records: &[u8]) -> Audit
+    requires { ⌜ (1 ≤ places) × (slotsIn one (now pool) ≤ 65536) ⌝ }
+    ensures { λ r. ⌜ r ≡ auditAnswer (auditCall one (now (pool .entry)) (now (records .entry))) ⌝ }
+{
+    if places < rows_size::slots_of(pool) {
+        return in_larger(8 * places, pool, records);
+    }
+    if places == 1024 {
+        return in_1024(pool, records);
+    }
+    if places == 8192 {
+        return in_8192(pool, records);
+    }
+    in_65536(pool, records)
+}

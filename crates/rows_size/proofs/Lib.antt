@@ -1,0 +1,2 @@
+pub mod AtEditionOne
+pub mod EnoughPlaces
