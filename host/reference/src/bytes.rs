@@ -3,8 +3,8 @@
 
 pub const BLOCK_BYTES: usize = 64;
 pub const RECORD_BYTES: usize = 12;
-/// "A pool has N slots of 64 bytes, N from 1 to 1,024."
-pub const MOST_SLOTS: usize = 1024;
+/// "A pool has N slots of 64 bytes, N from 1 to 65,536."
+pub const MOST_SLOTS: usize = 65_536;
 /// "A leaf holds up to 48 bytes, an inner block up to 12 children."
 pub const LEAF_BYTES: usize = 48;
 pub const FAN_OUT: usize = 12;

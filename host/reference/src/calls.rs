@@ -7,7 +7,7 @@ use crate::bytes::{decode_block, decode_record, encode_record, Content, Record, 
 use crate::bytes::{
     BLOCK_BYTES, LEAF_BYTES, MOST_SLOTS, PAYLOAD_START, RECORD_BYTES, WORN_VERSION,
 };
-use crate::cells::{count_usable, decode_cells, take_lowest_usable, write_out};
+use crate::cells::{decode_cells, take, usable_slots, write_out};
 use crate::faults::{planted, Fault};
 use crate::refusals::{No, Refusal};
 use crate::resize::{lengthen, shorten};
@@ -31,8 +31,8 @@ pub fn create(pool: &mut [u8], records: &mut [u8]) -> Result<u64, Refusal> {
     pool_check(pool, &decoded)?;
     let before = decode_cells(pool, &decoded);
     let mut after = before.clone();
-    let taken = take_lowest_usable(&mut after, State::Root, Content::empty(0));
-    let slot = taken.ok_or(No::Full.plain())?;
+    let slot = usable_slots(&before).next().ok_or(No::Full.plain())?;
+    take(&mut after, slot, State::Root, Content::empty(0));
     write_out(&before, &after, pool, records);
     Ok(slot as u64)
 }
@@ -93,12 +93,13 @@ pub fn resize(pool: &mut [u8], records: &mut [u8], root: u64, length: u64) -> Re
     let before = decode_cells(pool, &decoded);
     let total_before = block_total(leaf_count(blob.length));
     let needed = block_total(leaf_count(length)).saturating_sub(total_before);
-    if needed > count_usable(&before) {
+    let usable: Vec<usize> = usable_slots(&before).collect();
+    if needed > usable.len() as u64 {
         return Err(No::Full.plain());
     }
     let mut after = before.clone();
     if length >= blob.length {
-        lengthen(&mut after, blob.root, blob.length, length)?;
+        lengthen(&mut after, usable, blob.root, (blob.length, length))?;
     } else {
         shorten(&mut after, blob.root, blob.length, length);
     }
@@ -158,7 +159,7 @@ fn checked_pool_and_blob(
     Ok((decoded, named.ok_or(No::NotARoot.plain())?))
 }
 
-/// 1: "pool length is not 64 N with N from 1 to 1,024, or records length is
+/// 1: "pool length is not 64 N with N from 1 to 65,536, or records length is
 /// not 12 N". Answers N.
 fn check_lengths(pool: &[u8], records: &[u8]) -> Result<usize, Refusal> {
     let slots = pool.len() / BLOCK_BYTES;
@@ -172,8 +173,7 @@ fn check_lengths(pool: &[u8], records: &[u8]) -> Result<usize, Refusal> {
 
 /// 1, then 2: "a record breaks its layout; names the lowest such slot".
 fn check_records(pool: &[u8], records: &[u8]) -> Result<Vec<Record>, Refusal> {
-    check_lengths(pool, records)?;
-    let mut decoded = Vec::with_capacity(MOST_SLOTS);
+    let mut decoded = Vec::with_capacity(check_lengths(pool, records)?);
     for (slot, bytes) in records.chunks_exact(RECORD_BYTES).enumerate() {
         decoded.push(decode_record(bytes).ok_or(No::BrokenRecord.naming(slot))?);
     }

@@ -38,17 +38,17 @@ pub fn decode_cells(pool: &[u8], records: &[Record]) -> Vec<Cell> {
     records.iter().enumerate().map(cell).collect()
 }
 
-pub fn count_usable(cells: &[Cell]) -> u64 {
-    cells.iter().filter(|cell| cell.is_usable()).count() as u64
+/// The usable free slots, the lowest first. For as long as slots are taken in
+/// this order and none goes free, the next one is always "the lowest usable free
+/// slot"; a search from slot 0 for each would take seconds in a large pool.
+pub fn usable_slots(cells: &[Cell]) -> impl Iterator<Item = usize> + '_ {
+    (0..cells.len()).filter(move |slot| cells[*slot].is_usable())
 }
 
-/// Puts a block into "the lowest usable free slot", searched from slot 0
-/// every time, and returns that slot.
-pub fn take_lowest_usable(cells: &mut [Cell], state: State, content: Content) -> Option<usize> {
-    let slot = cells.iter().position(Cell::is_usable)?;
+/// Puts a block into a slot that was free.
+pub fn take(cells: &mut [Cell], slot: usize, state: State, content: Content) {
     cells[slot].state = state;
     cells[slot].content = content;
-    Some(slot)
 }
 
 /// Writes every slot that the call has changed, and no other.

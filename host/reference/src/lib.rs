@@ -2,8 +2,10 @@
 //! slices, the pool (untrusted blocks) and the records (trusted versions).
 //!
 //! The code follows the paper sentence by sentence and prefers clearness to
-//! speed. Comments in quotation marks cite the paper, in `head` the request;
-//! "reading 5" and the like cite the list of readings of its open sentences.
+//! speed. Comments in quotation marks cite the paper, with the numbers that
+//! request W-203 has put in it ("Raise N to 65,536 slots. Heights go to 5"), in
+//! `head` the request; "reading 5" and the like cite the list of readings of its
+//! open sentences.
 //!
 //! * `bytes`: the layout of a block and of a record
 //! * `shape`: how many leaves and blocks a length has

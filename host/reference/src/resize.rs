@@ -1,15 +1,25 @@
 //! Resize on the model, leaf by leaf as the paper tells it.
 
 use crate::bytes::{Content, State, FAN_OUT};
-use crate::cells::{take_lowest_usable, Cell};
+use crate::cells::{take, Cell};
 use crate::faults::{planted, Fault};
 use crate::refusals::{No, Refusal};
 use crate::shape::{leaf_count, leaf_share};
+use std::vec::IntoIter;
+
+/// The usable free slots that are left, the lowest first.
+type Usable = IntoIter<usize>;
 
 /// "Resize, longer: the last leaf fills with zeros, then leaves are added one
-/// by one."
-pub fn lengthen(cells: &mut [Cell], root: usize, old: u64, new: u64) -> Result<(), Refusal> {
+/// by one." No slot goes free meanwhile.
+pub fn lengthen(
+    cells: &mut [Cell],
+    usable: Vec<usize>,
+    root: usize,
+    (old, new): (u64, u64),
+) -> Result<(), Refusal> {
     let mut root = root;
+    let mut usable = usable.into_iter();
     let mut leaves = leaf_count(old);
     fit_last_leaf(cells, root, leaf_share(new, leaves - 1));
     while leaves < leaf_count(new) {
@@ -17,9 +27,9 @@ pub fn lengthen(cells: &mut [Cell], root: usize, old: u64, new: u64) -> Result<(
         // "when n is a power of 12 (1 included) and equals 12^d for the
         // present height d"
         if leaves == (FAN_OUT as u64).pow(u32::from(height)) {
-            root = raise_root(cells, root)?;
+            root = raise_root(cells, &mut usable, root)?;
         }
-        hang_chain(cells, root, leaf_share(new, leaves))?;
+        hang_chain(cells, &mut usable, root, leaf_share(new, leaves))?;
         leaves += 1;
     }
     Ok(())
@@ -38,9 +48,9 @@ pub fn shorten(cells: &mut [Cell], root: usize, old: u64, new: u64) {
 /// "first the lowest usable free slot takes the old root's height, count and
 /// payload, and the root becomes height d + 1 with that one child."
 /// Answers the root's slot, which stays.
-fn raise_root(cells: &mut [Cell], root: usize) -> Result<usize, Refusal> {
+fn raise_root(cells: &mut [Cell], usable: &mut Usable, root: usize) -> Result<usize, Refusal> {
     let old_root = cells[root].content;
-    let taken = take_part(cells, old_root)?;
+    let taken = take_part(cells, usable, old_root)?;
     let (root, child) = match planted(Fault::RootMovesWhenTaller) {
         false => (root, taken),
         true => (taken, root),
@@ -56,7 +66,12 @@ fn raise_root(cells: &mut [Cell], root: usize) -> Result<usize, Refusal> {
 /// children, hang a chain of new blocks one height lower each down to a leaf,
 /// each taking the lowest usable free slot, top first." The lowest block is
 /// the one nearest the leaves (reading 14).
-fn hang_chain(cells: &mut [Cell], root: usize, leaf_bytes: u8) -> Result<(), Refusal> {
+fn hang_chain(
+    cells: &mut [Cell],
+    usable: &mut Usable,
+    root: usize,
+    leaf_bytes: u8,
+) -> Result<(), Refusal> {
     let edge = right_edge(cells, root);
     let has_room = |slot: &&usize| {
         let content = &cells[**slot].content;
@@ -70,7 +85,7 @@ fn hang_chain(cells: &mut [Cell], root: usize, leaf_bytes: u8) -> Result<(), Ref
         if content.is_leaf() {
             content.count = leaf_bytes;
         }
-        let child = take_part(cells, content)?;
+        let child = take_part(cells, usable, content)?;
         cells[parent].content.append_child(child);
         parent = child;
     }
@@ -127,6 +142,8 @@ fn right_edge(cells: &[Cell], root: usize) -> Vec<usize> {
 }
 
 /// A new block of the blob. There is room, as the call has counted before.
-fn take_part(cells: &mut [Cell], content: Content) -> Result<usize, Refusal> {
-    take_lowest_usable(cells, State::Part, content).ok_or(No::Full.plain())
+fn take_part(cells: &mut [Cell], usable: &mut Usable, content: Content) -> Result<usize, Refusal> {
+    let slot = usable.next().ok_or(No::Full.plain())?;
+    take(cells, slot, State::Part, content);
+    Ok(slot)
 }

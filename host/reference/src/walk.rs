@@ -5,8 +5,8 @@ use crate::bytes::{BLOCK_MARK, FAN_OUT, LEAF_BYTES};
 use crate::faults::{planted, Fault};
 use crate::refusals::{No, Refusal};
 
-/// "a root's [height is] at most 3"
-pub const HIGHEST_ROOT: u8 = 3;
+/// "a root's [height is] at most 5"
+pub const HIGHEST_ROOT: u8 = 5;
 
 /// What a walk from one root found, all of it checked.
 pub struct Blob {
@@ -192,7 +192,7 @@ fn check_identity(slot: usize, block: &Block, record: &Record) -> Result<(), Ref
     Ok(())
 }
 
-/// Check 3: "Height (a root's at most 3, a child's one less than its
+/// Check 3: "Height (a root's at most 5, a child's one less than its
 /// parent's), count, or a non-zero byte after the used payload: 8."
 fn check_shape(slot: usize, content: &Content, place: Place) -> Result<(), Refusal> {
     let zeros_after = || content.payload.iter().skip(content.used_bytes()).all(|byte| *byte == 0);

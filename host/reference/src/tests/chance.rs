@@ -145,7 +145,7 @@ fn spoil(store: &mut Store, chance: &mut Chance) {
     let slot = chance.below(store.slots() as u64) as usize;
     let small = chance.below(16) as u8;
     match chance.below(6) {
-        0 => store.block_mut(slot)[2] = small % 5,
+        0 => store.block_mut(slot)[2] = small % 7,
         1 => store.block_mut(slot)[3] = chance.next() as u8 % 64,
         2 => store.block_mut(slot)[16 + 4 * (usize::from(small) % 12)] = small,
         3 => store.record_mut(slot)[2] = small % 3,

@@ -125,23 +125,71 @@ fn below_a_block_not_below_n_slot_0_is_every_leaf() {
     assert_eq!(asked(&store, [3, 48, LAST, 1], 48), [10; 48]);
 }
 
-#[test]
-fn a_height_above_3_counts_as_3() {
+/// Twelve slots: 7 is a root of height 3 with any heights below it, and 11 one
+/// of height 5 over it.
+fn twelve_slots() -> Store {
     let mut store = eight_slots();
     store.build_inner(7, ROOT, 3, &[6, 5]);
     store.build_inner(6, PART, 0, &[4, 0]);
     store.build_inner(5, PART, 77, &[0, 4]);
     store.build_inner(4, PART, 1, &[1, 3]);
-    for height in [3, 4, 128, 255] {
-        store.block_mut(7)[2] = height;
-        let leaf = |number: u64| asked(&store, [7, 48 * number, LAST, 1], 48);
-        // 7, 6, 4, then its children; after twelve leaves 7, 6, 0.
+    store.pool.resize(64 * 12, 0);
+    store.records.resize(12 * 12, 0);
+    store.build_inner(11, ROOT, 5, &[9, 10]);
+    store.build_inner(10, PART, 2, &[8, 7]);
+    store.build_inner(9, PART, 255, &[7, 8]);
+    store.build_inner(8, PART, 0, &[5, 6]);
+    store
+}
+
+/// The 48 bytes of a leaf below this root.
+fn leaf_below(store: &Store, root: u64, number: u64) -> Vec<u8> {
+    asked(store, [root, 48 * number, LAST, 1], 48)
+}
+
+/// "Heights go to 5" (W-203): 3 is no longer the height that all above it count
+/// as.
+#[test]
+fn a_root_of_height_3_has_its_leaves_three_below() {
+    let store = twelve_slots();
+    let leaf = |number| leaf_below(&store, 7, number);
+    // 7, 6, 4, then its children; after twelve leaves 7, 6, 0.
+    assert_eq!((leaf(0), leaf(1)), (vec![10; 48], vec![30; 48]));
+    assert_eq!((leaf(12), leaf(13)), (vec![20; 48], vec![10; 48]));
+    // After a hundred and forty-four 7, 5, 0, and then 7, 5, 4.
+    assert_eq!((leaf(144), leaf(145)), (vec![20; 48], vec![10; 48]));
+    assert_eq!((leaf(156), leaf(157)), (vec![10; 48], vec![30; 48]));
+}
+
+#[test]
+fn a_height_above_5_counts_as_5() {
+    let mut store = twelve_slots();
+    for height in [5, 6, 128, 255] {
+        store.block_mut(11)[2] = height;
+        let leaf = |number| leaf_below(&store, 11, number);
+        // 11, 9, 7, 6, 4, then its children.
         assert_eq!((leaf(0), leaf(1)), (vec![10; 48], vec![30; 48]));
-        assert_eq!((leaf(12), leaf(13)), (vec![20; 48], vec![10; 48]));
-        // After a hundred and forty-four 7, 5, 0, and then 7, 5, 4.
-        assert_eq!((leaf(144), leaf(145)), (vec![20; 48], vec![10; 48]));
-        assert_eq!((leaf(156), leaf(157)), (vec![10; 48], vec![30; 48]));
+        // After 12, 12^2, 12^3 and 12^4 leaves one of the rows goes on by one,
+        // which ends in 0.
+        for power in [12, 144, 1_728, 20_736] {
+            assert_eq!((leaf(power), leaf(power + 1)), (vec![20; 48], vec![10; 48]));
+        }
+        // 11, 10, 7, 6, 4, then its children.
+        assert_eq!((leaf(20_736 + 1_728), leaf(22_465)), (vec![10; 48], vec![30; 48]));
+        // After 12^5 it starts over.
+        assert_eq!((leaf(248_832), leaf(248_833)), (vec![10; 48], vec![30; 48]));
     }
+}
+
+#[test]
+fn a_height_of_4_is_not_5() {
+    let mut store = twelve_slots();
+    store.block_mut(11)[2] = 4;
+    assert_eq!(leaf_below(&store, 11, 0), payload(&store, 4));
+    for power in [1, 12, 144, 1_728] {
+        assert_eq!(leaf_below(&store, 11, power), payload(&store, 0));
+    }
+    assert_eq!(leaf_below(&store, 11, 20_736), payload(&store, 4));
 }
 
 /// Only the root's height is looked at: here 2, 1 and 0.
@@ -240,12 +288,10 @@ fn byte_at(pool: &[u8], root: u64, p: u64) -> u8 {
         (0..4).map(|i| u64::from(byte(slot, 16 + 4 * number + i)) << (8 * i)).sum::<u64>()
     };
     let j = p / 48;
-    let leaf = match byte(root, 2) {
-        0 => root,
-        1 => child(root, j % 12),
-        2 => child(child(root, j / 12 % 12), j % 12),
-        _ => child(child(child(root, j / 144 % 12), j / 12 % 12), j % 12),
-    };
+    let below = [1, 12, 144, 1_728, 20_736];
+    let heights = usize::from(byte(root, 2)).min(below.len());
+    let row = below[..heights].iter().rev();
+    let leaf = row.fold(root, |slot, leaves| child(slot, j / leaves % 12));
     byte(leaf, 16 + p % 48)
 }
 
@@ -256,7 +302,7 @@ fn any_pool(chance: &mut Chance, slots: u64) -> Vec<u8> {
     let mut pool = chance.bytes(bytes as usize);
     for block in pool.chunks_exact_mut(64) {
         if chance.below(4) > 0 {
-            block[2] = chance.below(4) as u8;
+            block[2] = chance.below(7) as u8;
         }
         if chance.below(2) > 0 {
             let row = block[16..].chunks_mut(4);
@@ -272,7 +318,8 @@ fn any_head_over_any_pool_hands_out_the_bytes_of_the_definition() {
     for _ in 0..3_000 {
         let (size, slots) = (chance.below(600) as usize, 1 + chance.below(9));
         let store = Store { pool: any_pool(&mut chance, slots), records: Vec::new() };
-        let place = [chance.below(8_000), LAST - chance.below(8_000)][chance.below(2) as usize];
+        let places = [chance.below(8_000), chance.below(3_000_000), LAST - chance.below(8_000)];
+        let place = places[chance.below(3) as usize];
         let root = chance.below(slots + 1);
         let length = place.saturating_add(chance.below(700));
         let handed = asked(&store, [root, place, length, 1], size);

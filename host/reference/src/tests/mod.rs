@@ -4,6 +4,7 @@
 mod chance;
 mod forged_heads;
 mod heads;
+mod large;
 mod numbers;
 mod order;
 mod readings_calls;

@@ -39,6 +39,14 @@ fn length_44976_44977() {
     assert_eq!([44_976, 44_977].map(blocks), [1024, 1025]);
 }
 
+/// About the heights 4 and 5, and the most that 65,536 slots have room for.
+#[test]
+fn lengths_of_large_blobs() {
+    assert_eq!([1_728, 1_729].map(block_total), [1_885, 1_890]);
+    assert_eq!([20_736, 20_737].map(block_total), [22_621, 22_627]);
+    assert_eq!([2_883_456, 2_883_457].map(blocks), [65_535, 65_537]);
+}
+
 #[test]
 fn the_totals_are_the_live_slots_of_real_blobs() {
     for length in [0, 48, 49, 576, 577, 6912, 6913, 44_976] {
@@ -93,13 +101,31 @@ fn offset_2_to_64_minus_1_and_size_2() {
     assert_eq!(store.write(0, u64::MAX, &[0, 0]), Err(plain_no(10)));
 }
 
+/// A pool of this many bytes, and records of as many slots.
+fn zeros(bytes: usize) -> Store {
+    Store { pool: vec![0; bytes], records: vec![0; bytes / 64 * 12] }
+}
+
+/// "For refusal 1 a pool of 65,600 bytes is now good and 4,194,368 is the first
+/// too long." (W-203)
 #[test]
-fn pool_of_0_bytes_and_of_65600_bytes() {
-    for bytes in [0, 65_600] {
-        let mut store = Store { pool: vec![0; bytes], records: vec![0; bytes / 64 * 12] };
+fn pool_of_0_bytes_and_of_4194368_bytes() {
+    for bytes in [0, 4_194_368] {
+        let mut store = zeros(bytes);
         assert_eq!(store.wipe(), Err(plain_no(1)));
         assert_eq!(store.create(), Err(plain_no(1)));
         assert_eq!(store.audit(), Err(plain_no(1)));
+    }
+}
+
+/// 65,600 bytes were refused before W-203.
+#[test]
+fn pool_of_65600_bytes_and_of_4194304_bytes() {
+    for bytes in [65_600, 4_194_304] {
+        let mut store = zeros(bytes);
+        assert_eq!(store.wipe(), Ok(()));
+        assert_eq!(store.create(), Ok(0));
+        assert_eq!(store.audit(), Ok(1));
     }
 }
 

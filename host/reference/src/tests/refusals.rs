@@ -47,9 +47,14 @@ fn one_for_any_lengths_that_do_not_fit() {
         (64, 13),
         (64, 24),
         (128, 12),
-        (65_600, 12_300),
         (65_536, 12_300),
         (65_537, 12_288),
+        // Of 65,600 bytes only those with other records: W-203 has more slots.
+        (65_600, 12_288),
+        (4_194_304, 786_444),
+        (4_194_305, 786_432),
+        (4_194_368, 786_432),
+        (4_194_368, 786_444),
         (6_400_000, 1_200_000),
     ];
     for (pool, records) in lengths {
@@ -59,9 +64,10 @@ fn one_for_any_lengths_that_do_not_fit() {
     }
 }
 
+/// W-203: 1,024 slots, the upper end before, are somewhere between.
 #[test]
 fn both_ends_of_the_allowed_lengths_pass() {
-    for slots in [1, 1024] {
+    for slots in [1, 1024, 1025, 65_536] {
         assert_eq!(Store::wiped(slots).create(), Ok(0));
     }
 }
