@@ -9,11 +9,20 @@ use tjornsaki::raw::HeadNumbers;
 /// How likely each kind of call is, in the order of `KINDS`.
 const WEIGHTS: [u64; 12] = [1, 24, 18, 30, 50, 70, 16, 20, 14, 10, 32, 20];
 
-/// Leaf counts about which the shape of a blob changes.
-const LEAF_EDGES: [u64; 16] =
-    [1, 2, 3, 11, 12, 13, 24, 132, 143, 144, 145, 156, 157, 288, 936, 937];
+/// Leaf counts about which the shape of a blob changes, and the most that 1,024
+/// and 65,536 slots have room for.
+const LEAF_EDGES: [u64; 24] = [
+    1, 2, 3, 11, 12, 13, 24, 132, 143, 144, 145, 156, 157, 288, 936, 937, 1_727, 1_728, 1_729,
+    1_740, 20_736, 20_737, 60_071, 60_072,
+];
 
-/// How many slots the pool of a run has: 1 to 1,024, mostly few.
+/// A pool of more slots is a large one.
+pub const SMALL: usize = 1_024;
+/// The most slots of a pool.
+pub const MOST_SLOTS: usize = 65_536;
+
+/// How many slots the pool of a run has: 1 to 1,024, mostly few. For larger ones
+/// see `draw_large_slots`.
 pub fn draw_slots(chance: &mut Chance) -> usize {
     match chance.weighted(&[20, 45, 25, 7, 3]) {
         0 => 1 + chance.place(4),
@@ -21,6 +30,16 @@ pub fn draw_slots(chance: &mut Chance) -> usize {
         2 => 33 + chance.place(168),
         3 => 201 + chance.place(824),
         _ => 1_024,
+    }
+}
+
+/// How many slots a large pool has: 1,025 to 65,536, now and then the most, and
+/// otherwise as often up to about 2,048 as beyond, as time goes with slots.
+pub fn draw_large_slots(chance: &mut Chance) -> usize {
+    let spread = 1 << (4 + chance.below(13));
+    match chance.one_in(10) {
+        true => MOST_SLOTS,
+        false => (SMALL + 1 + chance.place(spread)).min(MOST_SLOTS),
     }
 }
 
@@ -46,9 +65,11 @@ pub fn draw_call(chance: &mut Chance, view: View, head: &HeadNumbers) -> Call {
         7 => Call::Show { root, leaf: draw_leaf(chance, length_now(view, root)) },
         8 => Call::Audit,
         9 => Call::OpenHead { root },
-        10 if has_more(head) || chance.one_in(4) => Call::Next { size: draw_asking(chance, head) },
+        10 if has_more(head) || chance.one_in(4) => {
+            Call::Next { size: draw_asking(chance, view, head) }
+        }
         10 => Call::OpenHead { root },
-        _ => Call::Scan { root, size: draw_piece(chance, length_now(view, root)) },
+        _ => Call::Scan { root, size: draw_piece(chance, view, length_now(view, root)) },
     }
 }
 
@@ -105,9 +126,14 @@ fn draw_length(chance: &mut Chance, view: View, root: u64) -> u64 {
         15 => now / 2,
         16 => 0,
         17 | 18 => most_that_fits(view, now) + chance.below(2),
-        _ => chance.pick(&[u64::MAX, u64::MAX - 47, 1 << 63, 1 << 32, 44_976, 44_977]),
+        _ => chance.pick(&LENGTHS),
     }
 }
+
+/// Lengths that no pool has room for, and about the most that 1,024 and 65,536
+/// slots have room for.
+const LENGTHS: [u64; 8] =
+    [u64::MAX, u64::MAX - 47, 1 << 63, 1 << 32, 44_976, 44_977, 2_883_456, 2_883_457];
 
 /// A leaf count at an edge that the pool has room for, as a rule.
 fn draw_edge(chance: &mut Chance, view: View) -> u64 {
@@ -119,7 +145,7 @@ fn draw_edge(chance: &mut Chance, view: View) -> u64 {
 /// The greatest length for which the blob's blocks and the free slots do.
 fn most_that_fits(view: View, now: u64) -> u64 {
     let blocks = blocks_of(now) + view.free().len() as u64;
-    let (mut fits, mut beyond) = (0, 1_025);
+    let (mut fits, mut beyond) = (0, MOST_SLOTS as u64 + 1);
     while beyond - fits > 1 {
         let middle = (fits + beyond) / 2;
         if blocks_of(48 * middle) <= blocks {
@@ -147,14 +173,16 @@ fn has_more(head: &HeadNumbers) -> bool {
 }
 
 /// About so many bytes are asked for at most, where a head has more: twice what
-/// the largest blob has.
-const FAR: u64 = 100_000;
+/// the pool has room for, and not few.
+fn far(view: View) -> u64 {
+    (2 * 48 * view.slots() as u64).max(100_000)
+}
 
 /// How many bytes a head is asked for: nothing, a byte, a leaf, a row, what
 /// remains and about it, and far more.
-pub fn draw_asking(chance: &mut Chance, head: &HeadNumbers) -> usize {
+pub fn draw_asking(chance: &mut Chance, view: View, head: &HeadNumbers) -> usize {
     let [_, place, length, _] = *head;
-    let rest = length.saturating_sub(place).min(FAR);
+    let rest = length.saturating_sub(place).min(far(view));
     let size = match chance.below(20) {
         0 => 0,
         1 => 1,
@@ -165,7 +193,7 @@ pub fn draw_asking(chance: &mut Chance, head: &HeadNumbers) -> usize {
         6 => rest,
         7 => rest.saturating_sub(1),
         8 => rest + 1 + chance.below(100),
-        9 => FAR,
+        9 => far(view),
         10..=12 => chance.below(rest + 1),
         _ => chance.below(rest.min(200) + 1),
     };
@@ -173,11 +201,11 @@ pub fn draw_asking(chance: &mut Chance, head: &HeadNumbers) -> usize {
 }
 
 /// The piece of a scan, not so small that it takes thousands of them.
-fn draw_piece(chance: &mut Chance, length: u64) -> usize {
+fn draw_piece(chance: &mut Chance, view: View, length: u64) -> usize {
     let size = match chance.below(12) {
         0 => length,
         1 => length + 1,
-        2 => FAR,
+        2 => far(view),
         3..=7 => chance.below(200),
         _ => chance.pick(&[1, 7, 47, 48, 49, 96, 575, 576, 577, 6_912, 6_913]),
     };
@@ -185,8 +213,24 @@ fn draw_piece(chance: &mut Chance, length: u64) -> usize {
 }
 
 /// Numbers at which a place or a length may go wrong.
-const EDGES: [u64; 12] =
-    [0, 1, 47, 48, 576, 577, 6_912, 6_913, 1 << 32, u64::MAX - 48, u64::MAX - 1, u64::MAX];
+const EDGES: [u64; 16] = [
+    0,
+    1,
+    47,
+    48,
+    576,
+    577,
+    6_912,
+    6_913,
+    82_944,
+    82_945,
+    995_328,
+    995_329,
+    1 << 32,
+    u64::MAX - 48,
+    u64::MAX - 1,
+    u64::MAX,
+];
 
 /// Numbers for a head that no opening made.
 pub fn draw_head(chance: &mut Chance, view: View) -> HeadNumbers {
@@ -198,7 +242,7 @@ pub fn draw_head(chance: &mut Chance, view: View) -> HeadNumbers {
     };
     let length = match chance.below(4) {
         0 => length_now(view, root),
-        1 => chance.below(10_000),
+        1 => chance.below(10_000 + 48 * slots),
         2 => chance.number(),
         _ => chance.pick(&EDGES),
     };

@@ -10,7 +10,7 @@ use crate::bench::{Area, Bench, Step};
 use crate::book::Book;
 use crate::call::Call;
 use crate::chance::Chance;
-use crate::draw::draw_slots;
+use crate::draw::{draw_slots, SMALL};
 use crate::hostile::OldBlock;
 use crate::layout::{View, BLOCK};
 use crate::run::{Finding, Run};
@@ -39,18 +39,40 @@ impl Moment {
 struct History {
     moments: Vec<Moment>,
     blocks: Vec<OldBlock>,
+    /// The blocks by the slot that they lay in.
+    at_home: Vec<Vec<OldBlock>>,
     steps: Vec<Step>,
+}
+
+/// How long a history is, and how many stores are tried for each moment.
+struct Extent {
+    slots: usize,
+    calls: u64,
+    stores: u64,
 }
 
 /// Plays the history of this seed and tries stores of its blocks.
 pub fn try_history(seed: u64, tally: &mut Tally) -> Result<(), Finding> {
     let mut chance = Chance::new(seed);
-    let slots = draw_slots(&mut chance);
-    let mut run = Run::new(slots, chance, tally);
-    let history = play_history(&mut run, slots)?;
+    let extent =
+        Extent { slots: draw_slots(&mut chance), calls: 20 + chance.below(150), stores: 8 };
+    try_extent(chance, extent, tally)
+}
+
+/// The same over a large pool, not one of the largest, and with little of each.
+pub fn try_large_history(seed: u64, tally: &mut Tally) -> Result<(), Finding> {
+    let mut chance = Chance::new(seed);
+    let slots = SMALL + 1 + chance.place(2_000);
+    let extent = Extent { slots, calls: 10 + chance.below(30), stores: 2 };
+    try_extent(chance, extent, tally)
+}
+
+fn try_extent(chance: Chance, extent: Extent, tally: &mut Tally) -> Result<(), Finding> {
+    let mut run = Run::new(extent.slots, chance, tally);
+    let history = play_history(&mut run, &extent)?;
     for moment in &history.moments {
-        for _ in 0..8 {
-            let pool = mixed_pool(&mut run.chance, moment, &history.blocks);
+        for _ in 0..extent.stores {
+            let pool = mixed_pool(&mut run.chance, moment, &history);
             try_store(&mut run, &history, moment, &pool)?;
             run.tally.mixed_stores += 1;
         }
@@ -60,14 +82,13 @@ pub fn try_history(seed: u64, tally: &mut Tally) -> Result<(), Finding> {
 }
 
 /// Calls from a wipe, each held to the book.
-fn play_history(run: &mut Run, slots: usize) -> Result<History, Finding> {
-    let mut book = Book::new(slots);
-    let mut history = History { moments: Vec::new(), blocks: Vec::new(), steps: Vec::new() };
-    let most = 20 + run.chance.below(150);
+fn play_history(run: &mut Run, extent: &Extent) -> Result<History, Finding> {
+    let mut book = Book::new(extent.slots);
+    let (mut moments, mut blocks) = (Vec::new(), Vec::new());
     run.step(Step::Call(Call::Wipe))?;
-    while run.bench.calls < most {
+    while run.bench.calls < extent.calls {
         if run.chance.one_in(30) || run.bench.calls == 1 {
-            history.moments.push(Moment::of(run.bench.view(), run.steps().len()));
+            moments.push(Moment::of(run.bench.view(), run.steps().len()));
         }
         let call = match run.draw_call() {
             Call::Wipe => Call::Create,
@@ -77,11 +98,12 @@ fn play_history(run: &mut Run, slots: usize) -> Result<History, Finding> {
         let answer = run.step(Step::Call(call))?.unwrap_or_default();
         let entered = book.enter(&call, &answer, &run.bench.output, run.bench.view());
         entered.map_err(|words| run.finding(words, false))?;
-        history.blocks.extend(new_blocks(&before, run.bench.view().pool));
+        blocks.extend(new_blocks(&before, run.bench.view().pool));
     }
-    history.moments.push(Moment::of(run.bench.view(), run.steps().len()));
-    history.steps = run.steps().to_vec();
-    Ok(history)
+    moments.push(Moment::of(run.bench.view(), run.steps().len()));
+    let mut at_home = vec![Vec::new(); extent.slots];
+    blocks.iter().for_each(|old: &OldBlock| at_home[old.slot].push(*old));
+    Ok(History { moments, blocks, at_home, steps: run.steps().to_vec() })
 }
 
 /// The blocks that a call has put into the pool.
@@ -97,7 +119,7 @@ fn new_blocks(before: &[u8], after: &[u8]) -> Vec<OldBlock> {
 }
 
 /// The moment's pool with none, one, some or many of its slots filled anew.
-fn mixed_pool(chance: &mut Chance, moment: &Moment, blocks: &[OldBlock]) -> Vec<u8> {
+fn mixed_pool(chance: &mut Chance, moment: &Moment, history: &History) -> Vec<u8> {
     let mut pool = moment.pool.clone();
     let view = moment.view();
     let slots = view.slots();
@@ -107,9 +129,8 @@ fn mixed_pool(chance: &mut Chance, moment: &Moment, blocks: &[OldBlock]) -> Vec<
             Some(slot) if !chance.one_in(3) => slot,
             _ => chance.place(slots),
         };
-        let at_home: Vec<OldBlock> =
-            blocks.iter().filter(|old| old.slot == slot).copied().collect();
-        let bytes = match (chance.below(5), chance.pick_any(&at_home), chance.pick_any(blocks)) {
+        let at_home = chance.pick_any(&history.at_home[slot]);
+        let bytes = match (chance.below(5), at_home, chance.pick_any(&history.blocks)) {
             (1..=3, Some(old), _) | (4, _, Some(old)) => old.bytes,
             _ => [0; BLOCK],
         };
@@ -135,7 +156,7 @@ fn try_store(run: &mut Run, history: &History, then: &Moment, pool: &[u8]) -> Re
             Err(words) => Err((words, true)),
             Ok(answer) => {
                 let answer = answer.unwrap_or_default();
-                run.tally.count_answer(&call, &answer);
+                run.tally.count_answer(&call, &answer, view.slots());
                 run.tally.count_mixed(&answer);
                 expected.meets(&answer, &run.bench.output).map_err(|words| (words, false))
             }

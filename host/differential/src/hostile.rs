@@ -50,15 +50,15 @@ pub const RAIDS: [(&str, Raid); 23] = [
     ("a store spoilt under a head", spoil_under_head),
 ];
 
-fn in_block(slot: usize, at: usize, bytes: &[u8]) -> Step {
+pub fn in_block(slot: usize, at: usize, bytes: &[u8]) -> Step {
     Step::Patch { area: Area::Pool, at: slot * BLOCK + at, bytes: bytes.to_vec() }
 }
 
-fn in_record(slot: usize, at: usize, bytes: &[u8]) -> Step {
+pub fn in_record(slot: usize, at: usize, bytes: &[u8]) -> Step {
     Step::Patch { area: Area::Records, at: slot * RECORD + at, bytes: bytes.to_vec() }
 }
 
-fn link(slot: usize, index: usize, child: usize) -> Step {
+pub fn link(slot: usize, index: usize, child: usize) -> Step {
     in_block(slot, PAYLOAD + 4 * index, &(child as u32).to_le_bytes())
 }
 
@@ -134,7 +134,8 @@ fn link_outside(chance: &mut Chance, scene: &Scene) -> Option<Vec<Step>> {
     let slots = scene.view.slots();
     let free = chance.pick_any(&scene.view.free()).unwrap_or(slots);
     let any = chance.place(slots);
-    let child = chance.pick(&[slots, slots + 1, u32::MAX as usize, 1 << 16, free, free, any]);
+    let far = chance.pick(&[slots + 1, 65_535, 65_536, u32::MAX as usize]);
+    let child = chance.pick(&[slots, far, far, far, free, free, any]);
     let index = chance.place(usize::from(scene.view.count(slot)).min(12));
     Some(vec![link(slot, index, child)])
 }
@@ -153,7 +154,7 @@ fn wrong_height(chance: &mut Chance, scene: &Scene) -> Option<Vec<Step>> {
 }
 
 fn any_height(chance: &mut Chance, slot: usize) -> Step {
-    in_block(slot, 2, &[chance.pick(&[0, 1, 2, 3, 4, 255])])
+    in_block(slot, 2, &[chance.pick(&[0, 1, 2, 3, 4, 5, 6, 255])])
 }
 
 fn stale_byte(chance: &mut Chance, scene: &Scene) -> Option<Vec<Step>> {
@@ -240,15 +241,15 @@ fn row_reads_as_bytes(chance: &mut Chance, scene: &Scene) -> Option<Vec<Step>> {
     ])
 }
 
-fn ask(chance: &mut Chance, head: &HeadNumbers) -> Step {
-    Step::Call(Call::Next { size: draw_asking(chance, head) })
+fn ask(chance: &mut Chance, scene: &Scene, head: &HeadNumbers) -> Step {
+    Step::Call(Call::Next { size: draw_asking(chance, scene.view, head) })
 }
 
 /// A head that no opening made, and askings.
 fn forge_head(chance: &mut Chance, scene: &Scene) -> Option<Vec<Step>> {
     let head = draw_head(chance, scene.view);
     let mut steps = vec![Step::ForgeHead(head)];
-    steps.extend((0..3).map(|_| ask(chance, &head)));
+    steps.extend((0..3).map(|_| ask(chance, scene, &head)));
     Some(steps)
 }
 
@@ -265,8 +266,8 @@ fn spoil_under_head(chance: &mut Chance, scene: &Scene) -> Option<Vec<Step>> {
     let root = slot as u64;
     let length = reference::length(scene.view.pool, scene.view.records, root).unwrap_or(0);
     let head = [root, 0, length, 1];
-    let mut steps = vec![Step::Call(Call::OpenHead { root }), ask(chance, &head)];
+    let mut steps = vec![Step::Call(Call::OpenHead { root }), ask(chance, scene, &head)];
     steps.extend(spoiling);
-    steps.extend((0..3).map(|_| ask(chance, &head)));
+    steps.extend((0..3).map(|_| ask(chance, scene, &head)));
     Some(steps)
 }

@@ -4,6 +4,7 @@
 //!
 //! * `call`, `bench`, `sides`, `heads`, `guarded`: making a call on both sides
 //! * `draw`, `hostile`, `run`: runs by chance
+//! * `large`, `spoilt`, `told`: scenes of large pools, written down and always played
 //! * `book`, `history`: histories of calls, and the third demand over them
 //! * `reduce`: a short run for a difference
 //! * `tally`: what was met
@@ -20,9 +21,12 @@ pub mod guarded;
 pub mod heads;
 pub mod history;
 pub mod hostile;
+pub mod large;
 pub mod layout;
 pub mod options;
 pub mod reduce;
 pub mod run;
 pub mod sides;
+pub mod spoilt;
 pub mod tally;
+pub mod told;

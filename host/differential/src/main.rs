@@ -2,7 +2,8 @@
 //! the two sides differ.
 #![forbid(unsafe_code)]
 
-use differential::campaign::{campaign, play_one};
+use differential::campaign::{campaign, play_one, Origin};
+use differential::large::SCENES;
 use differential::options::{Options, USAGE};
 use differential::reduce::reduce;
 use differential::run::Finding;
@@ -39,24 +40,26 @@ fn compare(options: &Options) -> ExitCode {
         Some(run) => {
             let mut tally = Tally::default();
             let outcome = play_one(options.seed, run, &mut tally);
-            (tally, outcome.err().map(|finding| (run, finding)))
+            (tally, outcome.err().map(|finding| (Origin::Run(run), finding)))
         }
     };
-    if let Some((run, finding)) = found {
-        print_finding(options.seed, run, finding);
+    if let Some((origin, finding)) = found {
+        print_finding(options.seed, origin, finding);
         return ExitCode::FAILURE;
     }
     if options.run.is_none() {
         tally.print();
     }
-    let (runs, calls, time) = (tally.runs, tally.calls, start.elapsed().as_secs_f64());
-    println!("{runs} runs, {calls} calls in {time:.1} s: no difference");
+    let Tally { runs, scenes, calls, .. } = tally;
+    let time = start.elapsed().as_secs_f64();
+    println!("{scenes} scenes, {runs} runs, {calls} calls in {time:.1} s: no difference");
     judge(options, &tally)
 }
 
 /// Whether all was met that can be met, and nothing else.
 fn judge(options: &Options, tally: &Tally) -> ExitCode {
-    let missing = if options.run.is_none() { tally.missing() } else { Vec::new() };
+    let is_whole = options.run.is_none() && !options.scenes_alone;
+    let missing = if is_whole { tally.missing() } else { Vec::new() };
     missing.iter().for_each(|what| println!("NOT MET: {what}"));
     let unexpected = tally.unexpected();
     unexpected.iter().for_each(|what| println!("CANNOT BE: {what}"));
@@ -66,9 +69,17 @@ fn judge(options: &Options, tally: &Tally) -> ExitCode {
     }
 }
 
-fn print_finding(seed: u64, run: u64, finding: Finding) {
-    println!("FOUND in run {run}: {}", finding.words);
-    println!("again with: --seed {seed} --run {run}");
+fn print_finding(seed: u64, origin: Origin, finding: Finding) {
+    match origin {
+        Origin::Scene(scene) => {
+            println!("FOUND in the scene of {}: {}", SCENES[scene].0, finding.words);
+            println!("again with: --scenes");
+        }
+        Origin::Run(run) => {
+            println!("FOUND in run {run}: {}", finding.words);
+            println!("again with: --seed {seed} --run {run}");
+        }
+    }
     let steps = finding.steps.len();
     let short = reduce(finding, REDUCING);
     println!(

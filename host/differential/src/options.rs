@@ -8,6 +8,7 @@ differential: compares the proved library with the reference
   differential [--seconds S]   runs by chance for S seconds (60)
   differential --long          at least 10,000,000 calls
   differential --calls N       at least N calls
+  differential --scenes        the scenes of large pools alone
   --seed N                     the seed of the runs (printed; by default from the clock)
   --run K                      run number K of the seed alone
   --threads N                  how many threads (one for each processor)";
@@ -18,6 +19,8 @@ pub struct Options {
     pub threads: usize,
     /// Play this run alone.
     pub run: Option<u64>,
+    /// Play no runs, only what is always played.
+    pub scenes_alone: bool,
     /// Stop after so many calls.
     pub calls: Option<u64>,
     /// Stop after so long, where no number of calls is asked for.
@@ -32,11 +35,16 @@ impl Options {
         threads: usize,
     ) -> Result<Options, String> {
         let time = Duration::from_secs(60);
-        let mut options = Options { seed, threads, run: None, calls: None, time };
+        let mut options =
+            Options { seed, threads, run: None, scenes_alone: false, calls: None, time };
         let mut words = words;
         while let Some(word) = words.next() {
             if word == "--long" {
                 options.calls = Some(10_000_000);
+                continue;
+            }
+            if word == "--scenes" {
+                options.scenes_alone = true;
                 continue;
             }
             let known = ["--seed", "--run", "--calls", "--seconds", "--threads"];

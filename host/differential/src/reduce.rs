@@ -55,7 +55,7 @@ fn leave_steps_out(best: &mut Finding, until: Instant) {
 
 /// A smaller pool, and smaller numbers in each step.
 fn make_smaller(best: &mut Finding, until: Instant) {
-    for slots in [1, 2, 3, 4, 6, 8, 16, 32, 64, 128, 256] {
+    for slots in [1, 2, 3, 4, 6, 8, 16, 32, 64, 128, 256, 1_025, 2_000] {
         if slots < best.slots && take_if_differing(best, slots, best.steps.clone()) {
             break;
         }

@@ -3,7 +3,7 @@
 use crate::bench::{Bench, Step};
 use crate::call::Call;
 use crate::chance::Chance;
-use crate::draw::{draw_asking, draw_call, draw_head, draw_slots};
+use crate::draw::{draw_asking, draw_call, draw_head, draw_large_slots, draw_slots};
 use crate::hostile::{OldBlock, Scene, RAIDS};
 use crate::layout::{BLOCK, RECORD};
 use crate::tally::Tally;
@@ -28,6 +28,19 @@ impl Finding {
     }
 }
 
+/// Lengths of 1,025 slots, now and then of 65,536, and the first that are too
+/// long: these take their time.
+const LARGE_LENGTHS: [(usize, usize); 8] = [
+    (65_600, 12_300),
+    (65_600, 12_300),
+    (65_600, 12_300),
+    (65_600, 12_300),
+    (65_600, 12_288),
+    (65_600, 12_312),
+    (4_194_304, 786_432),
+    (4_194_368, 786_444),
+];
+
 /// How many old blocks a run remembers.
 const PAST_SIZE: usize = 64;
 
@@ -44,14 +57,26 @@ pub struct Run<'a> {
 pub fn play(seed: u64, tally: &mut Tally) -> Result<(), Finding> {
     let mut chance = Chance::new(seed);
     let slots = draw_slots(&mut chance);
-    let mut run = Run::new(slots, chance, tally);
-    let most = 60 + run.chance.below(300);
+    let most = 60 + chance.below(300);
+    play_in(Run::new(slots, chance, tally), most, 24)
+}
+
+/// Plays the run of this seed over a large pool: few calls, as they take long.
+pub fn play_large(seed: u64, tally: &mut Tally) -> Result<(), Finding> {
+    let mut chance = Chance::new(seed);
+    let slots = draw_large_slots(&mut chance);
+    let most = 20 + chance.below(30);
+    play_in(Run::new(slots, chance, tally), most, 8)
+}
+
+/// So many calls, in stretches of at most so many.
+fn play_in(mut run: Run, most: u64, stretch: u64) -> Result<(), Finding> {
     if run.chance.one_in(4) {
         run.some_calls(2)?; // before there is a store
     }
     run.step(Step::Call(Call::Wipe))?;
     while run.bench.calls < most {
-        run.some_calls(24)?;
+        run.some_calls(stretch)?;
         match run.chance.below(8) {
             0 => run.calls_over_lengths()?,
             1 => run.askings_over_lengths()?,
@@ -78,10 +103,13 @@ impl<'a> Run<'a> {
             Ok(answer) => answer,
             Err(words) => return Err(self.finding(words, true)),
         };
-        if let (Step::Call(call) | Step::CallOverLengths { call, .. }, Some(answer)) =
-            (step, &answer)
-        {
-            self.tally.count_answer(call, answer);
+        let called = match step {
+            Step::Call(call) => Some((call, self.slots)),
+            Step::CallOverLengths { call, pool, .. } => Some((call, pool / BLOCK)),
+            _ => None,
+        };
+        if let (Some((call, slots)), Some(answer)) = (called, &answer) {
+            self.tally.count_answer(call, answer, slots);
             self.tally.count_asking(call, &head);
         }
         if let (Step::Call(Call::Next { .. }), Some([_, _, handed, ..])) = (step, answer) {
@@ -192,7 +220,7 @@ impl<'a> Run<'a> {
         };
         self.step(opening)?;
         for _ in 0..4 {
-            let size = draw_asking(&mut self.chance, &self.bench.head);
+            let size = draw_asking(&mut self.chance, self.bench.view(), &self.bench.head);
             let pool = self.chance.place((self.slots + 2) * BLOCK);
             let call = Call::Next { size };
             self.step(Step::CallOverLengths { call, pool, records: 0 })?;
@@ -211,7 +239,7 @@ impl<'a> Run<'a> {
             4 => (pool - self.chance.pick(&[1, 63, 64]), records),
             5 => (pool, records + self.chance.pick(&[1, 11, 12])),
             6 => (pool, records - self.chance.pick(&[1, 11, 12])),
-            7 => (65_600, 12_300),
+            7 => self.chance.pick(&LARGE_LENGTHS),
             _ => (fewer * BLOCK, fewer * RECORD),
         }
     }

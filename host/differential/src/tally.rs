@@ -1,13 +1,14 @@
 //! What was met: answers by call and number, and ways of spoiling.
 
 use crate::call::{Call, KINDS};
+use crate::draw::SMALL;
 use crate::hostile::RAIDS;
 use tjornsaki::raw::{Answer, HeadNumbers};
 
 /// Numbers of an answer: 0 for done, 1 to 12 for refused.
 const NUMBERS: usize = 13;
 /// Heights of a root.
-const HEIGHTS: usize = 4;
+const HEIGHTS: usize = 6;
 /// What an asking can meet.
 const ASKINGS: [&str; 5] = [
     "a head that is not open",
@@ -22,6 +23,8 @@ const ROOTS: [&str; HEIGHTS + 2] = [
     "bytes below a root of height 1",
     "bytes below a root of height 2",
     "bytes below a root of height 3",
+    "bytes below a root of height 4",
+    "bytes below a root of height 5",
     "bytes below a root of a greater height",
     "bytes below a root beyond the pool",
 ];
@@ -30,20 +33,27 @@ const ROOTS: [&str; HEIGHTS + 2] = [
 pub struct Tally {
     pub calls: u64,
     pub runs: u64,
+    pub scenes: u64,
     answers: [[u64; NUMBERS]; KINDS.len()],
     raids: [u64; RAIDS.len()],
     /// Resizes that were done, by the root's height before and after.
     heights: [[u64; HEIGHTS]; HEIGHTS],
     askings: [u64; ASKINGS.len()],
     handed_out: [u64; ROOTS.len()],
+    /// Calls over pools of more than 1,024 slots: done and refused.
+    large: [[u64; 2]; KINDS.len()],
     /// Demand three: stores tried, and answers by number.
     pub mixed_stores: u64,
     mixed_answers: [u64; NUMBERS],
 }
 
 impl Tally {
-    pub fn count_answer(&mut self, call: &Call, answer: &Answer) {
+    /// Counts a call over a pool of so many slots.
+    pub fn count_answer(&mut self, call: &Call, answer: &Answer, slots: usize) {
         self.calls += 1;
+        if slots > SMALL {
+            self.large[call.kind()][usize::from(answer[0] != 0)] += 1;
+        }
         self.answers[call.kind()][(answer[0] as usize).min(NUMBERS - 1)] += 1;
     }
 
@@ -84,8 +94,12 @@ impl Tally {
     pub fn add(&mut self, other: &Tally) {
         self.calls += other.calls;
         self.runs += other.runs;
+        self.scenes += other.scenes;
         self.mixed_stores += other.mixed_stores;
         for (row, more) in self.answers.iter_mut().zip(&other.answers) {
+            add_rows(row, more);
+        }
+        for (row, more) in self.large.iter_mut().zip(&other.large) {
             add_rows(row, more);
         }
         for (row, more) in self.heights.iter_mut().zip(&other.heights) {
@@ -107,7 +121,22 @@ impl Tally {
             let unmet = kind.refusals.iter().filter(|number| row[**number as usize] == 0);
             missing.extend(unmet.map(|number| format!("{} refused {number}", kind.name)));
         }
+        missing.extend(self.missing_large());
         missing.extend(self.missing_stores());
+        missing
+    }
+
+    /// Every call is to be done, and refused if it can be, over large pools too.
+    fn missing_large(&self) -> Vec<String> {
+        let mut missing = Vec::new();
+        for (kind, [done, refused]) in KINDS.iter().zip(&self.large) {
+            if *done == 0 {
+                missing.push(format!("{} done over a large pool", kind.name));
+            }
+            if *refused == 0 && !kind.refusals.is_empty() {
+                missing.push(format!("{} refused over a large pool", kind.name));
+            }
+        }
         missing
     }
 
@@ -161,6 +190,7 @@ impl Tally {
             }
             println!();
         }
+        self.print_large();
         println!("resizes done, by the root's height before (rows) and after (columns)");
         for (height, row) in self.heights.iter().enumerate() {
             let counts: Vec<String> = row.iter().map(|count| format!("{count:>9}")).collect();
@@ -169,6 +199,14 @@ impl Tally {
         println!("askings of heads");
         self.heads().for_each(|(name, count)| println!("{count:>9} {name}"));
         self.print_stores();
+    }
+
+    fn print_large(&self) {
+        let calls: u64 = self.large.iter().flatten().sum();
+        println!("{calls} calls over large pools, of more than 1,024 slots: done and refused");
+        for (kind, [done, refused]) in KINDS.iter().zip(&self.large) {
+            println!("{:>8} {done:>9} {refused:>8}", kind.name);
+        }
     }
 
     fn print_stores(&self) {
