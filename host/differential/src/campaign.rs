@@ -32,14 +32,15 @@ struct Shared {
 }
 
 /// A run in so many is over a large pool; their share of the time is far larger.
-const LARGE_EVERY: u64 = 50;
+const LARGE_EVERY: u64 = 25;
 
-/// Plays a run of the seed: every fifth is a history for the third demand.
+/// Plays a run of the seed: every fifth is a history for the third demand, every
+/// fiftieth one over a large pool.
 pub fn play_one(seed: u64, run: u64, tally: &mut Tally) -> Result<(), Finding> {
     let own_seed = Chance::new(seed ^ run.rotate_left(32)).number();
     match (run % LARGE_EVERY, run % (2 * LARGE_EVERY), run % 5) {
         (20, _, _) => play_large(own_seed, tally),
-        (_, 45, _) => try_large_history(own_seed, tally),
+        (_, 35, _) => try_large_history(own_seed, tally),
         (_, _, 4) => try_history(own_seed, tally),
         _ => play(own_seed, tally),
     }

@@ -89,16 +89,19 @@ fn wrong_heights(view: View) -> Vec<Spoilt> {
 }
 
 /// "For a child slot: not below N .. 8, naming the parent. State free: 9, naming
-/// the child." The last slot of the largest pool is free.
+/// the child." The last slot of the largest pool is free. The last of these has
+/// the right number in its lower two bytes.
 fn far_children(view: View, slot: usize) -> Vec<Spoilt> {
     let row = view.children(slot);
+    if row.is_empty() {
+        return Vec::new();
+    }
     let far = |child: usize| match child < view.slots() {
         true => Spoilt { step: link(slot, row.len() - 1, child), number: 9, slot: child },
         false => Spoilt { step: link(slot, row.len() - 1, child), number: 8, slot },
     };
-    let children: &[usize] =
-        if row.is_empty() { &[] } else { &[65_535, 65_536, u32::MAX as usize] };
-    children.iter().map(|child| far(*child)).collect()
+    let children = [view.slots(), 65_535, 65_536, u32::MAX as usize, 65_536 + row[row.len() - 1]];
+    children.map(far).into()
 }
 
 /// The calls after one way: all, or two in turn.

@@ -3,10 +3,11 @@
 
 use differential::bench::Bench;
 use differential::campaign::play_one;
+use differential::large::SCENES;
 use differential::reduce::reduce;
 use differential::run::Finding;
 use differential::tally::Tally;
-use reference::faults::{plant, Fault, ALL};
+use reference::faults::{plant, Fault, ALL, OF_LARGE_POOLS};
 use std::time::{Duration, Instant};
 
 const SEED: u64 = 7;
@@ -48,6 +49,28 @@ fn every_planted_bug_is_found() {
 fn is_clean(finding: &Finding) -> bool {
     let mut bench = Bench::new(finding.slots);
     finding.steps.iter().all(|step| bench.step(step).is_ok())
+}
+
+/// The scene that finds a bug soon.
+fn scene_for(fault: Fault) -> &'static str {
+    match fault {
+        Fault::OneSlotLess | Fault::OneSlotMore => "lengths of pools",
+        Fault::HeadOfHeight3 => "a blob of 1,729 leaves",
+        _ => "a blob of 1,728 leaves",
+    }
+}
+
+#[test]
+fn every_planted_bug_of_large_pools_is_found_in_its_scene() {
+    for fault in OF_LARGE_POOLS {
+        let scene = SCENES.iter().find(|(name, _)| *name == scene_for(fault)).expect("a scene");
+        plant(Some(fault));
+        let found = scene.1(&mut Tally::default());
+        plant(None);
+        let finding = found.expect_err("a bug was not found");
+        println!("{fault:?}: found in the scene of {}: {}", scene.0, finding.words);
+        assert!(finding.is_difference, "{fault:?}: {}", finding.words);
+    }
 }
 
 #[test]

@@ -2,9 +2,12 @@
 
 use differential::bench::{Area, Bench, Step};
 use differential::call::{Call, KINDS};
+use differential::chance::Chance;
+use differential::draw::draw_large_slots;
 use differential::layout::{blocks_of, exchange};
 use differential::options::Options;
 use differential::tally::Tally;
+use differential::told::Told;
 use std::time::Duration;
 
 #[test]
@@ -14,6 +17,7 @@ fn block_totals_of_the_paper() {
         assert_eq!(blocks_of(length), blocks);
     }
     assert_eq!((blocks_of(44_976), blocks_of(44_977)), (1_024, 1_025));
+    assert_eq!((blocks_of(2_883_456), blocks_of(2_883_457)), (65_535, 65_537));
 }
 
 /// A blob stays the same whatever slots its blocks change to.
@@ -109,6 +113,50 @@ fn nothing_tried_is_nothing_met() {
     let refusals: usize = KINDS.iter().map(|kind| kind.refusals.len()).sum();
     assert!(missing.len() > KINDS.len() + refusals);
     assert!(Tally::default().unexpected().is_empty());
+}
+
+#[test]
+fn calls_over_large_pools_are_counted() {
+    let mut tally = Tally::default();
+    let met = |tally: &Tally| {
+        let missing = tally.missing();
+        let is_missing = |what: &str| missing.iter().any(|name| name == what);
+        [
+            !is_missing("audit done over a large pool"),
+            !is_missing("audit refused over a large pool"),
+        ]
+    };
+    tally.count_answer(&Call::Audit, &[0; 8], 1_024);
+    assert_eq!(met(&tally), [false, false]);
+    tally.count_answer(&Call::Audit, &[0; 8], 1_025);
+    assert_eq!(met(&tally), [true, false]);
+    tally.count_answer(&Call::Audit, &[8, 0, 0, 0, 0, 0, 0, 0], 65_536);
+    assert_eq!(met(&tally), [true, true]);
+}
+
+#[test]
+fn large_pools_are_large() {
+    let mut chance = Chance::new(3);
+    let drawn: Vec<usize> = (0..1_000).map(|_| draw_large_slots(&mut chance)).collect();
+    assert!(drawn.iter().all(|slots| (1_025..=65_536).contains(slots)));
+    assert!(drawn.contains(&65_536) && drawn.iter().any(|slots| (20_000..60_000).contains(slots)));
+    assert!(drawn.iter().filter(|slots| **slots < 4_000).count() > 500);
+}
+
+/// What a scene says is wrong is found even where both sides agree.
+#[test]
+fn a_told_answer_is_held_to_its_words() {
+    let mut tally = Tally::default();
+    let mut told = Told::new(1, &mut tally);
+    let create = Step::Call(Call::Create);
+    let root = Call::Length { root: 0 };
+    assert!(told.done(create.clone()).is_err());
+    assert!(told.done(Step::Call(Call::Wipe)).is_ok());
+    assert!(told.refused(create.clone(), 11, None).is_err());
+    assert!(told.refused(create.clone(), 11, Some(0)).is_err());
+    assert!(told.refused(create, 11, None).is_ok());
+    assert!(told.gives(root, 1).is_err());
+    assert!(told.gives(root, 0).is_ok());
 }
 
 #[test]

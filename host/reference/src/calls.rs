@@ -163,12 +163,18 @@ fn checked_pool_and_blob(
 /// not 12 N". Answers N.
 fn check_lengths(pool: &[u8], records: &[u8]) -> Result<usize, Refusal> {
     let slots = pool.len() / BLOCK_BYTES;
-    let pool_fits = pool.len() % BLOCK_BYTES == 0 && (1..=MOST_SLOTS).contains(&slots);
+    let pool_fits = pool.len() % BLOCK_BYTES == 0 && (1..=most_slots()).contains(&slots);
     if pool_fits && records.len() == slots * RECORD_BYTES {
         Ok(slots)
     } else {
         Err(No::WrongLengths.plain())
     }
+}
+
+/// The most slots, but for planted bugs.
+fn most_slots() -> usize {
+    let less = usize::from(planted(Fault::OneSlotLess));
+    MOST_SLOTS - less + usize::from(planted(Fault::OneSlotMore))
 }
 
 /// 1, then 2: "a record breaks its layout; names the lowest such slot".

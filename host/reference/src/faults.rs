@@ -39,9 +39,34 @@ pub enum Fault {
     HeadPastTheEnd,
     /// A head skips a byte after each piece.
     HeadSkipsAByte,
+    /// A pool has at most 65,535 slots.
+    OneSlotLess,
+    /// A pool may have 65,537 slots.
+    OneSlotMore,
+    /// A root has at most height 4.
+    OneHeightLess,
+    /// A root may have height 6.
+    OneHeightMore,
+    /// A child slot may be N, as if there were one more free slot.
+    ChildAtN,
+    /// Only the lower two bytes of a child slot count.
+    ShortSlotNumbers,
+    /// A head goes at most 3 heights down.
+    HeadOfHeight3,
 }
 
-/// Every bug that can be planted.
+/// The bugs that only large pools show.
+pub const OF_LARGE_POOLS: [Fault; 7] = [
+    Fault::OneSlotLess,
+    Fault::OneSlotMore,
+    Fault::OneHeightLess,
+    Fault::OneHeightMore,
+    Fault::ChildAtN,
+    Fault::ShortSlotNumbers,
+    Fault::HeadOfHeight3,
+];
+
+/// Every other bug that can be planted.
 pub const ALL: [Fault; 17] = [
     Fault::ReusedSlotAtVersionOne,
     Fault::VersionNotRaised,

@@ -77,7 +77,8 @@ fn place_after(place: u64, count: u64) -> u64 {
 /// The slot of this leaf: as many heights below the root as the root's block
 /// says, at most 5.
 fn leaf_slot(pool: &[u8], root: u64, leaf: u64) -> u64 {
-    let height = content_in(pool, root).height.min(HIGHEST_ROOT);
+    let most = if planted(Fault::HeadOfHeight3) { 3 } else { HIGHEST_ROOT };
+    let height = content_in(pool, root).height.min(most);
     slot_below(pool, root, height, leaf)
 }
 

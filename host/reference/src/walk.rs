@@ -36,7 +36,7 @@ impl Place {
 
     fn allows_height(self, found: u8) -> bool {
         match self {
-            Place::Root => found <= HIGHEST_ROOT,
+            Place::Root => found <= highest_root(),
             Place::Child { height, .. } => found == height,
         }
     }
@@ -54,6 +54,12 @@ impl Place {
         };
         (least..=most).contains(&usize::from(content.count))
     }
+}
+
+/// The greatest height of a root, but for planted bugs.
+fn highest_root() -> u8 {
+    let less = u8::from(planted(Fault::OneHeightLess));
+    HIGHEST_ROOT - less + u8::from(planted(Fault::OneHeightMore))
 }
 
 /// "The blob check is the walk from one root." It has its own visited set.
@@ -163,7 +169,13 @@ impl Walk<'_> {
     /// Check 1: "For a child slot: not below N, state root, or already visited
     /// in this call: 8, naming the parent. State free: 9, naming the child."
     fn check_link(&self, parent: usize, link: u32) -> Result<usize, Refusal> {
-        let child = link as usize;
+        let child = match planted(Fault::ShortSlotNumbers) {
+            false => link as usize,
+            true => link as usize % (1 << 16),
+        };
+        if child == self.records.len() && planted(Fault::ChildAtN) {
+            return Err(No::Reintroduced.naming(child));
+        }
         let record = self.records.get(child).ok_or(No::WrongShape.naming(parent))?;
         match record.state {
             State::Root => Err(No::WrongShape.naming(parent)),
