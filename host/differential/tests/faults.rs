@@ -10,7 +10,7 @@ use differential::tally::Tally;
 use reference::faults::{plant, Fault, ALL, OF_LARGE_POOLS};
 use std::time::{Duration, Instant};
 
-const SEED: u64 = 7;
+const SEED: u64 = 8;
 /// Within so many calls a bug must be found; some seconds at the most.
 const MOST_CALLS: u64 = 500_000;
 /// A reduced run has at most so many steps.
