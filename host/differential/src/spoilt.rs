@@ -104,7 +104,7 @@ fn far_children(view: View, slot: usize) -> Vec<Spoilt> {
     children.map(far).into()
 }
 
-/// The calls after one way: all, or two in turn.
+/// The calls after one way: all, or one in turn.
 fn calls(index: usize, all: bool) -> Vec<Call> {
     let root = 0;
     let calls = [
@@ -121,6 +121,6 @@ fn calls(index: usize, all: bool) -> Vec<Call> {
     ];
     match all {
         true => calls.to_vec(),
-        false => calls[2 * (index % 5)..][..2].to_vec(),
+        false => vec![calls[index % calls.len()]],
     }
 }
