@@ -1,7 +1,7 @@
 /*
  * Tjornsaki: a small block store over two byte areas that the caller lends.
  *
- * The pool holds N blocks of 64 bytes, N from 1 to 1,024, and is not trusted. The records hold N records of 12 bytes and are trusted: they
+ * The pool holds N blocks of 64 bytes, N from 1 to 65,536, and is not trusted. The records hold N records of 12 bytes and are trusted: they
  * say which slots are in use and at which version. A blob is a string of bytes, named by its root's slot, which stays the same as long as the
  * blob lives.
  *
@@ -11,10 +11,25 @@
  *   - pool, records, head, out and answer do not overlap, and neither does data with pool, records or answer,
  *   - no other thread touches them during the call.
  * A function keeps no pointer and nothing else between calls, takes no memory from the heap, and calls nothing but C's memset and memcpy.
- * It needs at most TJ_STACK bytes of stack: its own rows have a place for each of 1,024 slots, ten bytes a slot in write, resize and delete, five
- * in length, read, show and opening a head, one in create and audit, none in tj_next; resize also has a sheet of 937 numbers there, two bytes each;
- * and the walk is never deeper than four blocks.
- * tests/c/stack.c measures each call on a pool that one blob fills.
+ *
+ * Stack. A call makes its rows there, by the number of slots: with 128, 1,024, 8,192 or 65,536 places, the least of these that suffices; so a pool
+ * of 129 slots takes the stack of one of 1,024. Write, resize and delete make ten bytes a place, length, read, show and opening a head five, create and
+ * audit one, wipe and tj_next none; and a call that is refused with 1 makes none. Resize also has a sheet of 937 numbers there, two bytes each, and the
+ * walk is never deeper than six blocks. TJ_STACK(slots) is more than any call takes in a pool of so many slots. What each takes, in bytes, as
+ * tests/c/stack.c measures it on x86-64, in a pool that one blob fills:
+ *
+ *   slots                 64       1,024       8,192      65,536
+ *   tj_wipe              135         135         135         135
+ *   tj_create          1,959       3,719      11,527      69,511
+ *   tj_length          2,215       8,647      45,687     333,607
+ *   tj_read            2,423       8,983      46,103     334,103
+ *   tj_write           3,799      13,303      85,527     659,511
+ *   tj_resize          5,879      13,623      85,831     659,799
+ *   tj_delete          3,479      12,951      85,143     659,095
+ *   tj_show            2,263       8,743      45,815     333,767
+ *   tj_audit           1,991       3,783      11,623      69,639
+ *   tj_open_head       2,247       8,679      45,719     333,639
+ *   tj_next              359         359         687         767
  *
  * Every function leaves eight numbers in answer, whatever was there before:
  *   answer[TJ_REFUSAL]      the number of the refusal, 0 if the call was done
@@ -25,7 +40,7 @@
  *
  * A call that is refused writes nothing but answer; tj_open_head also leaves a head of zeros. The refusals, of which the first that holds is given:
  *
- *    1  the pool's length is not 64 N with N from 1 to 1,024, or the records' length is not 12 N
+ *    1  the pool's length is not 64 N with N from 1 to 65,536, or the records' length is not 12 N
  *    2  a record breaks its layout; names the lowest such slot
  *    3  the named root is not below N, or its record is not a root
  *    4  spoiled: a block's mark is wrong; names the block's slot
@@ -62,9 +77,10 @@
 extern "C" {
 #endif
 
-/* Rises when a function is added or a signature changes; 1 was the nine functions without a head. It is the second number of the version that
- * pkg-config tells. */
-#define TJ_VERSION 2
+/* Rises when a function is added, or when a program for the header of before may need a change; so a program can ask by it what it has. 1 was the
+ * nine functions without a head; 2 came with the head; 3 takes pools of more than 1,024 slots, and TJ_STACK takes their number. It is the second
+ * number of the version that pkg-config tells. */
+#define TJ_VERSION 3
 
 /* The numbers in an answer, and the places of those that have a name. */
 #define TJ_ANSWER 8
@@ -87,10 +103,14 @@ extern "C" {
 #define TJ_BLOCK 64
 #define TJ_RECORD 12
 #define TJ_LEAF 48
-#define TJ_SLOTS 1024
+#define TJ_SLOTS 65536
 
-/* The most bytes of stack that a call takes. */
-#define TJ_STACK 16384
+/* The places of the rows that a call makes in a pool of so many slots. */
+#define TJ_PLACES(slots) ((slots) <= 128 ? 128 : (slots) <= 1024 ? 1024 : (slots) <= 8192 ? 8192 : 65536)
+
+/* The most bytes of stack that a call takes in a pool of at most so many slots: 11 for each place of its rows, and 16 KiB. Constant if the number of
+ * slots is, so that an array can have that size; TJ_STACK(TJ_SLOTS), 737,280 bytes, is enough for every pool. */
+#define TJ_STACK(slots) (11 * TJ_PLACES(slots) + 16384)
 
 /* The refusals. */
 #define TJ_DONE 0

@@ -2,13 +2,15 @@
  * with, what is handed out is what the definition in this file says, and nothing else is touched. */
 #include "checks.h"
 
-#define LONGEST 44976 /* the bytes of the blob that fills 1,024 slots */
+#define MANY 1024     /* slots of the pool that is gone through byte by byte too; tests/c/large.c goes through larger ones */
+#define LONGEST 44976 /* the bytes of the blob that fills it */
 #define SLOTS 32      /* of the pool that forged heads are used with */
 #define MOST 200      /* the most that is asked of them at once */
+#define TALLEST 5     /* the greatest height of a root */
 
 #define COUNT(list) (sizeof(list) / sizeof *(list))
 
-static uint8_t pool[TJ_BLOCK * TJ_SLOTS], records[TJ_RECORD * TJ_SLOTS], bytes[LONGEST], whole[LONGEST], joined[LONGEST + 1];
+static uint8_t pool[TJ_BLOCK * MANY], records[TJ_RECORD * MANY], bytes[LONGEST], whole[LONGEST], joined[LONGEST + 1];
 
 /* A store of so many slots with one blob, of root 0, that has so many bytes. */
 static void lay_blob(size_t slots, size_t length)
@@ -50,7 +52,7 @@ static void test_pieces(void)
     static const size_t sizes[] = {1, 7, 47, 48, 49, 576, 1000, LONGEST, LONGEST + 1};
     size_t l, s;
     for (l = 0; l < COUNT(lengths); l++) {
-        lay_blob(TJ_SLOTS, lengths[l]);
+        lay_blob(MANY, lengths[l]);
         tj_read(pool, sizeof pool, records, sizeof records, 0, 0, whole, lengths[l], answer);
         CHECK(done(0) && memcmp(whole, bytes, lengths[l]) == 0);
         for (s = 0; s < COUNT(sizes); s++) {
@@ -64,14 +66,14 @@ static void test_refused(void)
 {
     uint64_t head[TJ_HEAD] = {9, 9, 9, 9};
     uint8_t out = 0x77;
-    lay_blob(TJ_SLOTS, 100);
+    lay_blob(MANY, 100);
     pool[TJ_BLOCK + 8]--;
     tj_open_head(pool, sizeof pool, records, sizeof records, 0, head, answer);
     CHECK(refused(TJ_ROLLED_BACK, 1) && head_is(head, 0, 0, 0, 0));
     pool[TJ_BLOCK + 8]++;
     tj_next(pool, sizeof pool, head, &out, 1, answer);
     CHECK(done(0) && head_is(head, 0, 0, 0, 0) && out == 0x77);
-    tj_open_head(pool, sizeof pool, records, sizeof records, TJ_SLOTS, head, answer);
+    tj_open_head(pool, sizeof pool, records, sizeof records, MANY, head, answer);
     CHECK(refused(TJ_NO_ROOT, TJ_NO_SLOT) && head_is(head, 0, 0, 0, 0));
 }
 
@@ -104,7 +106,7 @@ static uint64_t slot_below(size_t slots, uint64_t root, unsigned heights, uint64
 static uint8_t byte_at(size_t slots, uint64_t root, uint64_t place)
 {
     unsigned height = root < slots ? lent.pool[TJ_BLOCK * root + 2] : 0;
-    uint64_t slot = slot_below(slots, root, height < 3 ? height : 3, place / TJ_LEAF);
+    uint64_t slot = slot_below(slots, root, height < TALLEST ? height : TALLEST, place / TJ_LEAF);
     return slot < slots ? lent.pool[TJ_BLOCK * slot + 16 + place % TJ_LEAF] : 0;
 }
 
@@ -146,8 +148,9 @@ static void forge(uint64_t root, uint64_t place, uint64_t length, uint64_t open)
 static void forge_all(void)
 {
     static const uint64_t roots[] = {0, 1, 2, 14, SLOTS - 1, SLOTS, (uint64_t)1 << 32, UINT64_MAX};
-    static const uint64_t places[] = {0, 1, 47, 100, 575, 576, 82943, 82944, (uint64_t)1 << 32, UINT64_MAX - 1, UINT64_MAX};
-    static const uint64_t lengths[] = {0, 1, 577, 100000, UINT64_MAX};
+    /* 82,944 and 11,943,936 are the bytes of the leaves below a root of height 3, the greatest before pools had more than 1,024 slots, and of 5. */
+    static const uint64_t places[] = {0, 1, 47, 100, 575, 576, 82943, 82944, 11943935, 11943936, (uint64_t)1 << 32, UINT64_MAX - 1, UINT64_MAX};
+    static const uint64_t lengths[] = {0, 1, 577, 100000, 12000000, UINT64_MAX};
     size_t r, p, l;
     for (r = 0; r < COUNT(roots); r++) {
         for (p = 0; p < COUNT(places); p++) {
