@@ -165,7 +165,7 @@ static void forge_all(void)
     }
 }
 
-/* A sound pool; the same with a root's height and child slots that no check would pass; bytes of no meaning; ones. */
+/* A sound pool; the same with a root's height and child slots that no check would pass; bytes of no meaning, of height 0 and of 3 to 7; ones. */
 static void test_forged(void)
 {
     size_t i;
@@ -181,6 +181,10 @@ static void test_forged(void)
     for (i = 0; i < sizeof lent.pool; i++) {
         some = some * 1664525 + 1013904223;
         lent.pool[i] = i % 4 < 2 ? (uint8_t)(some >> 24) % SLOTS : 0;
+    }
+    forge_all();
+    for (i = 0; i < SLOTS; i++) {
+        lent.pool[TJ_BLOCK * i + 2] = (uint8_t)(3 + i % 5);
     }
     forge_all();
     memset(lent.pool, 0xFF, sizeof lent.pool);
