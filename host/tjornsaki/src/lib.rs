@@ -31,6 +31,10 @@
 //! A [`Head`] reads a blob from its first byte to its last, in pieces of any
 //! size, and checks it once.
 //!
+//! The calls take nothing from the heap. Their stack grows with the slots, as
+//! `include/tjornsaki.h` has it: at most 737,280 bytes with [`MOST_SLOTS`], so
+//! the 2 MiB that Rust gives a thread are enough.
+//!
 //! This crate only lends slices to the library and takes its answer apart.
 #![deny(unsafe_code)]
 #![warn(missing_docs)]
@@ -50,7 +54,7 @@ pub const BLOCK_BYTES: usize = 64;
 pub const RECORD_BYTES: usize = 12;
 
 /// The most slots that a store can have.
-pub const MOST_SLOTS: usize = 1024;
+pub const MOST_SLOTS: usize = 65_536;
 
 /// A pool and records of fitting lengths for this many slots, 1 to
 /// [`MOST_SLOTS`]. They hold no store before [`wipe`].

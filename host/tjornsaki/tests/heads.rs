@@ -7,7 +7,8 @@ use tjornsaki::{create, length, read, resize, room, wipe, write, Head};
 
 type Store = (Vec<u8>, Vec<u8>);
 
-/// Lengths on either side of a leaf, of a row, of two rows, and the longest.
+/// Lengths on either side of a leaf, of a row, of two rows, and the longest in
+/// 1,024 slots; larger stores have a test of their own.
 const LENGTHS: [usize; 14] = [0, 1, 47, 48, 49, 96, 97, 575, 576, 577, 6_911, 6_912, 6_913, 44_976];
 
 /// Bytes whose neighbours, and whose leaves, differ.
@@ -75,6 +76,23 @@ fn pieces_joined_are_one_read() {
             let head = Head::open(&pool, &records, root).unwrap();
             assert_eq!((head.root(), head.place(), head.length()), (root, 0, size as u64));
             assert!(joined(head, cut) == whole, "{size} bytes by {cut:?}");
+        }
+    }
+}
+
+/// The same over heights 4 and 5, to the longest.
+#[test]
+fn large_stores() {
+    let (mut pool, mut records) = room(tjornsaki::MOST_SLOTS);
+    wipe(&mut pool, &mut records).unwrap();
+    let root = create(&mut pool, &mut records).unwrap();
+    let all = bytes(2_883_456);
+    for size in [82_944, 82_945, 995_328, 995_329, 2_883_456] {
+        resize(&mut pool, &mut records, root, size as u64).unwrap();
+        write(&mut pool, &mut records, root, 0, &all[..size]).unwrap();
+        for cut in [&[10_000, 0, 47][..], &[3_000_000]] {
+            let head = Head::open(&pool, &records, root).unwrap();
+            assert!(joined(head, cut) == all[..size], "{size} bytes by {cut:?}");
         }
     }
 }

@@ -1,7 +1,8 @@
 //! The rows of the paper's "Numbers to try" that can be run, its whole example,
 //! every count of leaves, and every refusal, through the crate.
 
-use tjornsaki::{audit, create, delete, length, read, resize, room, show, wipe, write, Refusal};
+use tjornsaki::{audit, create, delete, length, read, resize, room, show, wipe, write};
+use tjornsaki::{Head, Refusal, MOST_SLOTS};
 
 type Store = (Vec<u8>, Vec<u8>);
 
@@ -50,9 +51,17 @@ fn block_totals() {
         (6_912, 157),
         (6_913, 161),
         (44_976, 1_024),
+        // The rest needs larger pools than there were at first: 1,728 and 1,729
+        // leaves, 20,736 and 20,737, and the most.
+        (44_977, 1_025),
+        (82_944, 1_885),
+        (82_945, 1_890),
+        (995_328, 22_621),
+        (995_329, 22_627),
+        (2_883_456, 65_535),
     ];
     for (size, blocks) in totals {
-        let (pool, records) = with_blob(1_024, size);
+        let (pool, records) = with_blob(blocks.max(1_024) as usize, size);
         assert_eq!(audit(&pool, &records), Ok(blocks), "length {}", size);
         assert_eq!(length(&pool, &records, 0), Ok(size));
     }
@@ -73,12 +82,16 @@ fn lengthened(slots: u64, leaves: u64) -> Result<Store, Refusal> {
     Ok((pool, records))
 }
 
-/// Every row of the library's sheet: that many leaves fit a pool of their block
-/// total, and lack room in one of a slot less. The first row is the empty
-/// blob's: it is in every price.
+/// Counts after the sheet's last: the next ones, and those on either side of a
+/// height, to the most.
+const WORKED_OUT: [u64; 8] = [938, 939, 1_728, 1_729, 20_736, 20_737, 60_071, 60_072];
+
+/// Every row of the library's sheet, and some larger counts, which are worked
+/// out: that many leaves fit a pool of their block total, and lack room in one of
+/// a slot less. The first row is the empty blob's: it is in every price.
 #[test]
 fn every_count_of_leaves_has_its_price() {
-    for leaves in 2..=937 {
+    for leaves in (2..=937).chain(WORKED_OUT) {
         let blocks = paper_total(leaves);
         let audited = lengthened(blocks, leaves).and_then(|(pool, records)| audit(&pool, &records));
         assert_eq!(audited, Ok(blocks), "{} leaves", leaves);
@@ -109,6 +122,9 @@ fn no_room() {
     let (mut pool, mut records) = with_blob(1_024, 0);
     assert_eq!(resize(&mut pool, &mut records, 0, 44_977), Err(no(11, None)));
     assert_eq!(resize(&mut pool, &mut records, 0, u64::MAX), Err(no(11, None)));
+    let (mut pool, mut records) = with_blob(MOST_SLOTS, 0);
+    assert_eq!(resize(&mut pool, &mut records, 0, 2_883_457), Err(no(11, None)));
+    assert_eq!(resize(&mut pool, &mut records, 0, u64::MAX), Err(no(11, None)));
 }
 
 #[test]
@@ -125,10 +141,39 @@ fn no_wrapped_sum() {
 #[test]
 fn wrong_lengths() {
     assert_eq!(wipe(&mut [], &mut []), Err(no(1, None)));
-    let (mut pool, mut records) = room(1_025);
-    assert_eq!(pool.len(), 65_600);
+    // 65,600 bytes were too long while a pool had at most 1,024 slots.
+    for (slots, bytes) in [(1_025, 65_600), (MOST_SLOTS, 4_194_304)] {
+        let (mut pool, mut records) = room(slots);
+        assert_eq!(pool.len(), bytes);
+        assert_eq!(audit(&pool, &records), Err(no(2, Some(0))));
+        assert_eq!(wipe(&mut pool, &mut records), Ok(()));
+        assert_eq!(audit(&pool, &records), Ok(0));
+    }
+    let (mut pool, mut records) = room(MOST_SLOTS + 1);
+    assert_eq!(pool.len(), 4_194_368);
     assert_eq!(wipe(&mut pool, &mut records), Err(no(1, None)));
     assert_eq!(audit(&pool, &records), Err(no(1, None)));
+}
+
+/// What the crate's page says of the stack: every call in the largest store, in
+/// a thread with no more than the library's 737,280 bytes and 64 KiB for the rest.
+#[test]
+fn a_small_stack_is_enough() {
+    let every_call = || {
+        let (mut pool, mut records) = with_blob(MOST_SLOTS, 2_883_456);
+        write(&mut pool, &mut records, 0, 2_883_455, b"x").unwrap();
+        let mut out = [0];
+        read(&pool, &records, 0, 2_883_455, &mut out).unwrap();
+        assert_eq!(show(&pool, &records, 0, 60_071).unwrap()[47..], out);
+        assert_eq!(length(&pool, &records, 0), Ok(2_883_456));
+        assert_eq!(Head::open(&pool, &records, 0).unwrap().next(&mut out), 1);
+        assert_eq!(audit(&pool, &records), Ok(65_535));
+        assert_eq!(create(&mut pool, &mut records), Ok(65_535));
+        resize(&mut pool, &mut records, 0, 1).unwrap();
+        delete(&mut pool, &mut records, 0)
+    };
+    let thread = std::thread::Builder::new().stack_size(737_280 + (64 << 10)).spawn(every_call);
+    assert_eq!(thread.unwrap().join().unwrap(), Ok(()));
 }
 
 #[test]
