@@ -31,7 +31,7 @@ pub const COMMANDS: &[Command] = &[
         long: "\
 Makes a pool and records with N slots, all free.
 
-  --slots N           how many slots, 1 to 1024 (16). A blob of up to 48 bytes
+  --slots N           how many slots, 1 to 65536 (16). A blob of up to 48 bytes
                       takes one; one of 100 bytes four: three for its bytes,
                       one above them.
   --force --forget-history

@@ -19,7 +19,8 @@ impl Json {
     }
 
     pub fn hex(bytes: &[u8]) -> Json {
-        Json::Text(bytes.iter().map(|byte| format!("{byte:02x}")).collect())
+        let digit = |half: u8| char::from(b"0123456789abcdef"[usize::from(half)]);
+        Json::Text(bytes.iter().flat_map(|byte| [digit(byte >> 4), digit(byte & 15)]).collect())
     }
 
     pub fn numbers(numbers: &[u64]) -> Json {

@@ -126,6 +126,20 @@ pub fn leaves(length: u64) -> u64 {
     rounded_up(length, LEAF_BYTES).max(1)
 }
 
+/// The length of a blob that is sound, by the blocks of its right edge.
+pub fn length(pool: &[u8], slot: usize) -> Option<u64> {
+    let block = block(pool, slot)?;
+    let row = block.children();
+    match (block.height(), row.split_last()) {
+        (0, _) => Some(block.count().into()),
+        (height, Some((last, full))) => {
+            let each = FAN_OUT.checked_pow(u32::from(height) - 1)? * LEAF_BYTES;
+            Some(full.len() as u64 * each + length(pool, *last)?)
+        }
+        _ => None,
+    }
+}
+
 /// How many blocks a blob with so many leaves has.
 pub fn blocks(leaves: u64) -> u64 {
     match leaves {
@@ -150,17 +164,31 @@ mod tests {
 
     #[test]
     fn blocks_by_length() {
-        let lengths = [0, 48, 49, 576, 577, 6_912, 6_913, 44_976, 44_977];
-        let counts = [1, 1, 3, 13, 16, 157, 161, 1_024, 1_025];
+        let lengths = [0, 48, 49, 576, 577, 6_912, 6_913, 44_976, 44_977, 2_883_456, 2_883_457];
+        let counts = [1, 1, 3, 13, 16, 157, 161, 1_024, 1_025, 65_535, 65_537];
         assert_eq!(lengths.map(|length| blocks(leaves(length))), counts);
     }
 
     #[test]
     fn lengths_by_slots() {
         assert_eq!(largest(0), None);
-        for slots in 1..=1_024 {
+        // To 1,024 all of them; of the larger ones those about a height, and the most.
+        let larger = [1_885, 1_886, 1_890, 22_621, 22_627, 65_534, 65_535, 65_536];
+        for slots in (1..=1_024).chain(larger) {
             let length = largest(slots).unwrap();
             assert!(blocks(leaves(length)) <= slots && slots < blocks(leaves(length + 1)));
+        }
+    }
+
+    /// The right edge says what the library says.
+    #[test]
+    fn lengths_by_the_right_edge() {
+        let (mut pool, mut records) = tjornsaki::room(tjornsaki::MOST_SLOTS);
+        tjornsaki::wipe(&mut pool, &mut records).unwrap();
+        let root = tjornsaki::create(&mut pool, &mut records).unwrap();
+        for size in [0, 1, 48, 49, 576, 577, 82_944, 82_945, 995_329, 2_883_456, 2_000_000] {
+            tjornsaki::resize(&mut pool, &mut records, root, size).unwrap();
+            assert_eq!(length(&pool, root as usize), Some(size));
         }
     }
 }

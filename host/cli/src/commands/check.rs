@@ -38,21 +38,39 @@ pub fn check(source: &dyn Source) -> Result<Answer, Failure> {
     Ok(answer)
 }
 
+/// One bad slot's blobs are all listed up to so many. Of more, only a few are, and
+/// the others are counted: every bad slot may hurt every blob.
+const MOST_LISTED: usize = 1_024;
+const FEW: usize = 12;
+
+/// The blobs to list, and how many more there are.
+fn some(hurts: &[u64]) -> (&[u64], usize) {
+    let shown = if hurts.len() > MOST_LISTED { FEW } else { hurts.len() };
+    (&hurts[..shown], hurts.len() - shown)
+}
+
 fn line(Bad { refusal, hurts, cut_off }: &Bad) -> String {
-    let blobs = match (hurts.len(), cut_off) {
+    let (shown, more) = some(hurts);
+    let blobs = match (shown.len(), cut_off) {
         (0, false) => "hurts no blob".into(),
         (0, true) => "cut off".into(),
-        (_, false) => format!("hurts {}", named("blob", hurts)),
-        (_, true) => format!("cut off from blob {}", listed(hurts, "or")),
+        (_, false) => format!("hurts {}", named("blob", shown)),
+        (_, true) => format!("cut off from blob {}", listed(shown, "or")),
     };
-    format!("{refusal}; {blobs}")
+    let more = if more > 0 { format!(", and {more} more") } else { String::new() };
+    format!("{refusal}; {blobs}{more}")
 }
 
 fn row(bad: &Bad) -> Json {
-    Json::Object(vec![
+    let (shown, more) = some(&bad.hurts);
+    let mut row = vec![
         ("slot", Json::slot(bad.refusal.slot)),
         ("refusal", Json::Number(bad.refusal.number)),
         ("words", Json::text(bad.refusal.words())),
-        ("hurts", Json::numbers(&bad.hurts)),
-    ])
+        ("hurts", Json::numbers(shown)),
+    ];
+    if more > 0 {
+        row.push(("hurts_more", Json::Number(more as u64)));
+    }
+    Json::Object(row)
 }

@@ -4,25 +4,25 @@ use super::Source;
 use crate::answer::Answer;
 use crate::failure::Failure;
 use crate::json::Json;
-use crate::layout::{blocks, leaves, records, roots};
+use crate::layout::{blocks, leaves, records};
 use crate::pair::Pair;
+use crate::survey::{Blob, Survey};
 use tjornsaki::Refusal;
 
 pub fn list(source: &dyn Source) -> Result<Answer, Failure> {
     let pair = source.load()?;
     check_records(&pair)?;
-    let (mut lines, mut rows, mut first) = (vec![], vec![], None);
-    for root in roots(&records(&pair.records)) {
-        let length = tjornsaki::length(&pair.pool, &pair.records, root);
-        lines.push(list_line(&pair, root, &length));
-        rows.push(list_row(&pair, root, &length));
-        first = first.or_else(|| length.err());
-    }
+    let records = records(&pair.records);
+    let blobs = Survey::new(&pair.pool, &pair.records)?.blobs;
+    let version = |blob: &Blob| records[blob.root as usize].version;
+    let wide = records.len().saturating_sub(1).to_string().len().max(4);
     let head =
-        format!("{:>4} {:>7} {:>6} {:>6}  {}", "root", "length", "leaves", "blocks", "version");
-    lines.insert(0, head);
+        format!("{:>wide$} {:>7} {:>6} {:>6}  {}", "root", "length", "leaves", "blocks", "version");
+    let lines = blobs.iter().map(|blob| list_line(blob, version(blob), wide));
+    let lines: Vec<String> = std::iter::once(head).chain(lines).collect();
+    let rows = blobs.iter().map(|blob| list_row(blob, version(blob))).collect();
     let mut answer = Answer::line(lines.join("\n"), vec![("blobs", Json::List(rows))]);
-    answer.failure = first.map(Failure::from);
+    answer.failure = blobs.iter().find_map(|blob| blob.length.err()).map(Failure::from);
     Ok(answer)
 }
 
@@ -34,20 +34,18 @@ pub fn check_records(pair: &Pair) -> Result<(), Refusal> {
     }
 }
 
-fn list_line(pair: &Pair, root: u64, length: &Result<u64, Refusal>) -> String {
-    let version = version(pair, root);
+fn list_line(Blob { root, length }: &Blob, version: u64, wide: usize) -> String {
     match length {
         Ok(length) => {
             let (leaves, blocks) = (leaves(*length), blocks(leaves(*length)));
-            format!("{root:>4} {length:>7} {leaves:>6} {blocks:>6}  {version}")
+            format!("{root:>wide$} {length:>7} {leaves:>6} {blocks:>6}  {version}")
         }
-        Err(refusal) => format!("{root:>4} {refusal}"),
+        Err(refusal) => format!("{root:>wide$} {refusal}"),
     }
 }
 
-fn list_row(pair: &Pair, root: u64, length: &Result<u64, Refusal>) -> Json {
-    let mut row =
-        vec![("root", Json::Number(root)), ("version", Json::Number(version(pair, root)))];
+fn list_row(Blob { root, length }: &Blob, version: u64) -> Json {
+    let mut row = vec![("root", Json::Number(*root)), ("version", Json::Number(version))];
     match length {
         Ok(length) => row.extend([
             ("length", Json::Number(*length)),
@@ -61,8 +59,4 @@ fn list_row(pair: &Pair, root: u64, length: &Result<u64, Refusal>) -> Json {
         ]),
     }
     Json::Object(row)
-}
-
-fn version(pair: &Pair, slot: u64) -> u64 {
-    records(&pair.records)[slot as usize].version
 }

@@ -6,7 +6,6 @@ use crate::answer::Answer;
 use crate::failure::Failure;
 use crate::json::Json;
 use crate::layout::{largest, records, usable, worn, Record, State};
-use crate::wording::counted;
 
 pub fn status(source: &dyn Source) -> Result<Answer, Failure> {
     let pair = source.load()?;
@@ -20,15 +19,16 @@ pub fn status(source: &dyn Source) -> Result<Answer, Failure> {
     let in_use_worn = count(&|record| record.state != State::Free && worn(record.version));
     let blobs = count(&|record| record.state == State::Root);
     let (slots, largest) = (records.len() as u64, largest(usable(&records)));
+    let wide = largest.map_or(0, |length| length.to_string().len()).max(5);
     let lines = [
-        format!("slots            {slots:>5}"),
-        format!("in use           {:>5}", slots - free),
-        format!("  of these worn  {in_use_worn:>5}"),
-        format!("free             {free:>5}"),
-        format!("  of these worn  {free_worn:>5}"),
-        format!("blobs            {blobs:>5}"),
+        format!("slots            {slots:>wide$}"),
+        format!("in use           {:>wide$}", slots - free),
+        format!("  of these worn  {in_use_worn:>wide$}"),
+        format!("free             {free:>wide$}"),
+        format!("  of these worn  {free_worn:>wide$}"),
+        format!("blobs            {blobs:>wide$}"),
         match largest {
-            Some(length) => format!("largest new blob {:>11}", counted(length, "byte")),
+            Some(length) => format!("largest new blob {length:>wide$} bytes"),
             None => "largest new blob  none".into(),
         },
     ];

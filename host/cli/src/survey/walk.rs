@@ -5,7 +5,7 @@ use crate::layout::{block, Block, Record, State, FAN_OUT, LEAF_BYTES};
 use tjornsaki::Refusal;
 
 /// The heights of a root, and of a block below one.
-const HIGHEST_ROOT: u8 = 3;
+const HIGHEST_ROOT: u8 = 5;
 const HIGHEST_PART: u8 = HIGHEST_ROOT - 1;
 
 /// Where a block stands, as far as that is known.
@@ -54,11 +54,11 @@ impl Place {
     }
 }
 
-pub struct Walk<'a> {
-    pool: &'a [u8],
-    records: &'a [Record],
-    pub visited: Vec<bool>,
-    /// In the order of the walk.
+/// What one walk finds.
+#[derive(Default)]
+pub struct Walk {
+    /// In the order of the walk, and so are the others.
+    pub visited: Vec<usize>,
     pub faults: Vec<Refusal>,
     /// Parents and children whose rows were followed.
     pub links: Vec<(usize, usize)>,
@@ -66,47 +66,66 @@ pub struct Walk<'a> {
     pub cut: bool,
 }
 
-impl<'a> Walk<'a> {
-    fn new(pool: &'a [u8], records: &'a [Record], visited: Vec<bool>) -> Walk<'a> {
-        Walk { pool, records, visited, faults: Vec::new(), links: Vec::new(), cut: false }
+/// Walks through one blob after the other. The set of visited slots is one row of
+/// numbers for all walks: a walk takes as long as its blob, not as the store.
+pub struct Walker<'a> {
+    pool: &'a [u8],
+    records: &'a [Record],
+    /// The number of the walk that visited the slot last.
+    marks: Vec<u64>,
+    number: u64,
+    walk: Walk,
+}
+
+impl<'a> Walker<'a> {
+    pub fn new(pool: &'a [u8], records: &'a [Record]) -> Walker<'a> {
+        let marks = vec![0; records.len()];
+        Walker { pool, records, marks, number: 0, walk: Walk::default() }
     }
 
     /// From one root, with a set of visited slots of its own.
-    pub fn of_blob(pool: &'a [u8], records: &'a [Record], root: usize) -> Walk<'a> {
-        let mut walk = Walk::new(pool, records, vec![false; records.len()]);
-        walk.visit(root, Place::Root);
-        walk
+    pub fn blob(&mut self, root: usize) -> Walk {
+        self.number += 1;
+        self.visit(root, Place::Root);
+        std::mem::take(&mut self.walk)
     }
 
     /// Through all parts that no blob reaches, the highest first, so that a
     /// block is found by the row above it where there is one.
-    pub fn of_cut_off(pool: &'a [u8], records: &'a [Record], reached: &[bool]) -> Walk<'a> {
-        let mut walk = Walk::new(pool, records, reached.to_vec());
+    pub fn cut_off(&mut self, reached: &[bool]) -> Walk {
+        self.number += 1;
+        let slots = (0..reached.len()).filter(|slot| reached[*slot]);
+        slots.for_each(|slot| self.marks[slot] = self.number);
         let heights = (0..=HIGHEST_PART).rev().map(Some);
         for height in heights.chain([None]) {
-            for (slot, record) in records.iter().enumerate() {
-                let part = record.state == State::Part && !walk.visited[slot];
-                let block = if part { block(pool, slot) } else { None };
+            for (slot, record) in self.records.iter().enumerate() {
+                let part = record.state == State::Part && !self.visited(slot);
+                let block = if part { block(self.pool, slot) } else { None };
                 let fits = |block: Block<'_>| match height {
-                    Some(height) => walk.known(slot, &block).is_ok() && block.height() == height,
+                    Some(height) => self.known(slot, &block).is_ok() && block.height() == height,
                     None => true,
                 };
                 if block.map_or(false, fits) {
-                    walk.visit(slot, Place::CutOff);
+                    self.visit(slot, Place::CutOff);
                 }
             }
         }
-        walk
+        std::mem::take(&mut self.walk)
+    }
+
+    fn visited(&self, slot: usize) -> bool {
+        self.marks[slot] == self.number
     }
 
     fn visit(&mut self, slot: usize, place: Place) {
-        self.visited[slot] = true;
+        self.marks[slot] = self.number;
+        self.walk.visited.push(slot);
         match self.judged(slot, place) {
             Ok(block) if block.height() > 0 => self.visit_row(slot, &block, place.edge()),
             Ok(_) => (),
             Err(number) => {
-                self.faults.push(refused(number, slot));
-                self.cut |= place.may_lead_on();
+                self.walk.faults.push(refused(number, slot));
+                self.walk.cut |= place.may_lead_on();
             }
         }
     }
@@ -116,13 +135,13 @@ impl<'a> Walk<'a> {
         for (place, child) in row.iter().enumerate() {
             match self.linked(parent, *child) {
                 Ok(()) => {
-                    self.links.push((parent, *child));
+                    self.walk.links.push((parent, *child));
                     let edge = edge && place + 1 == row.len();
                     self.visit(*child, Place::Child { height: block.height() - 1, edge });
                 }
                 Err(fault) => {
-                    self.faults.extend(fault);
-                    self.cut = true;
+                    self.walk.faults.extend(fault);
+                    self.walk.cut = true;
                 }
             }
         }
@@ -132,7 +151,7 @@ impl<'a> Walk<'a> {
     fn linked(&self, parent: usize, child: usize) -> Result<(), Option<Refusal>> {
         match self.records.get(child).map(|record| record.state) {
             None | Some(State::Root) => Err(Some(refused(8, parent))),
-            _ if self.visited[child] => Err(Some(refused(8, parent))),
+            _ if self.visited(child) => Err(Some(refused(8, parent))),
             Some(State::Free) => Err(Some(refused(9, child))),
             Some(State::Broken) => Err(None),
             Some(State::Part) => Ok(()),

@@ -44,8 +44,9 @@ fn spoil(pool: &mut [u8], store: &Store, chance: &mut Chance) {
 /// The walk says no other than the library; answers whether all is well.
 fn agrees(pool: &[u8], record_bytes: &[u8]) -> bool {
     let records = records(record_bytes);
+    let mut walker = Walker::new(pool, &records);
     for root in roots(&records) {
-        let walk = Walk::of_blob(pool, &records, root as usize);
+        let walk = walker.blob(root as usize);
         let length = tjornsaki::length(pool, record_bytes, root);
         assert_eq!(walk.faults.first().copied(), length.err(), "blob {root}");
     }
@@ -71,6 +72,7 @@ fn agrees(pool: &[u8], record_bytes: &[u8]) -> bool {
 fn explains_refused_blobs(pool: &[u8], record_bytes: &[u8]) {
     let survey = Survey::new(pool, record_bytes).unwrap();
     for blob in &survey.blobs {
+        assert_eq!(blob.length, tjornsaki::length(pool, record_bytes, blob.root));
         let hurt = survey.bad.iter().any(|bad| bad.hurts.contains(&blob.root));
         assert_eq!(hurt, blob.length.is_err(), "blob {}", blob.root);
     }
