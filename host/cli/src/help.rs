@@ -101,7 +101,8 @@ slots in use. It stops at the first bad slot; `check` lists them all." },
 Goes on where audit stops: lists every bad slot with its refusal and the blobs
 it hurts, then the blobs that read whole and those that are refused. Below a
 bad block nothing is reached; what is there is called cut off, and is bad only
-if it is bad by itself. Like audit it cannot know forged bytes under a right
+if it is bad by itself. Where one slot hurts more than 1024 blobs, 12 are listed
+and the others counted. Like audit it cannot know forged bytes under a right
 header. The exit status is that of audit." },
     Command { name: "status", words: &[], options: &[], flags: &[],
         short: "tell how full the store is",
@@ -115,6 +116,11 @@ audit and check do that." },
         long: "\
 Draws the slots with their versions and the blobs as trees. Every slot that
 `check` lists is red, with the reason; the command itself then still succeeds.
+
+Of more than 1024 slots each is a dot, without its version. Below them up to 60
+refused slots are drawn large, and up to 60 blobs, refused ones before others:
+of a tree what leads to refused and worn blocks and to its end. Other neighbours
+are one box that counts them and what is below. What else is left out is told.
 
   --out FILE.svg   write it there (standard output)" },
     Command { name: "demo", words: &[], options: &["--out"], flags: &[],

@@ -74,6 +74,17 @@ impl Canvas {
         );
     }
 
+    /// A plain area whose words show when a pointer rests on it.
+    pub fn area(&mut self, frame: Frame, fill: &str, words: &str) {
+        let Frame { x, y, w, h } = frame;
+        self.reach(x + w, y + h);
+        let words = escaped(words);
+        let _ = writeln!(
+            self.body,
+            r#"<rect x="{x}" y="{y}" width="{w}" height="{h}" fill="{fill}"><title>{words}</title></rect>"#
+        );
+    }
+
     pub fn line(&mut self, from: (i32, i32), to: (i32, i32)) {
         let ((a, b), (c, d)) = (from, to);
         let _ = writeln!(

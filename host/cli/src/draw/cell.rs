@@ -1,7 +1,10 @@
 //! One slot, large or small.
 
 use super::canvas::{width_of, Canvas, Frame, Pen, RED};
-use super::scene::{Cell, Role};
+use super::scene::{Cell, Role, Run};
+
+/// The outline of a slot in use that is worn.
+const WORN: &str = "#d79a00";
 
 /// How much room a slot gets.
 #[derive(Clone, Copy, Debug, PartialEq, Eq)]
@@ -77,7 +80,7 @@ pub fn draw(canvas: &mut Canvas, cell: &Cell, x: i32, y: i32, scale: Scale) {
     let (w, h) = scale.size();
     let Look(fill, stroke, ink) = look(cell);
     let worn = cell.worn() && cell.refusal.is_none();
-    let (stroke, thick) = if worn { ("#d79a00", "3") } else { (stroke, "1") };
+    let (stroke, thick) = if worn { (WORN, "3") } else { (stroke, "1") };
     let claims = cell.claims.as_ref().map_or(String::new(), |claims| format!("; {claims}"));
     canvas.open(&format!("slot {}: {}, version {}{claims}", cell.slot, reason(cell), cell.version));
     canvas.rect(Frame { x: x + 1, y: y + 1, w: w - 2, h: h - 2 }, fill, stroke, thick);
@@ -93,6 +96,42 @@ pub fn draw(canvas: &mut Canvas, cell: &Cell, x: i32, y: i32, scale: Scale) {
             canvas.text(middle, y + 24, Pen::middle(9, ink), &short(cell.version));
         }
     }
+    canvas.close();
+}
+
+/// The colour of a slot that is drawn as a dot.
+pub fn colour(cell: &Cell) -> &'static str {
+    match cell.role {
+        Role::Free => look(cell).0,
+        _ if cell.worn() && cell.refusal.is_none() => WORN,
+        _ => look(cell).0,
+    }
+}
+
+/// Neighbours as one, as large as a large slot: two sheets, one upon the other.
+pub fn draw_run(canvas: &mut Canvas, run: &Run, x: i32, y: i32) {
+    let (w, h) = Scale::Large.size();
+    let Run { first, last, blocks, leaves, below, refused } = run;
+    let (fill, ink) = if *refused > 0 { (RED, "#ffffff") } else { ("#eef3f2", "#17323a") };
+    let what = match (blocks, leaves) {
+        (1, _) => "1 block".to_string(),
+        (_, true) => format!("{blocks} leaves"),
+        (_, false) => format!("{blocks} blocks"),
+    };
+    canvas.open(&format!("{what}, slot {first} to slot {last}; {below} below, {refused} refused"));
+    for step in [4, 0] {
+        let frame = Frame { x: x + 1 + step, y: y + 1 + step, w: w - 6, h: h - 6 };
+        canvas.rect(frame, fill, "#7f9aa3", "1");
+    }
+    let middle = x + w / 2 - 2;
+    canvas.text(middle, y + 20, Pen::middle(14, ink).bold(), &what);
+    let more = match (refused, below) {
+        (0, 0) => String::new(),
+        (0, below) => format!("{below} below"),
+        (refused, _) => format!("{refused} refused"),
+    };
+    canvas.text(middle, y + 35, Pen::middle(11, ink), &format!("{first} .. {last}"));
+    canvas.text(middle, y + 50, Pen::middle(11, ink), &more);
     canvas.close();
 }
 

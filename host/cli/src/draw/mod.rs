@@ -1,8 +1,11 @@
-//! A picture of a store: its slots in a grid and its blobs as trees.
+//! A picture of a store: its slots in a grid and its blobs as trees. Of a large
+//! store each slot is a dot, and of the trees that is drawn which stands out.
 
 mod canvas;
 mod cell;
+mod fold;
 mod grid;
+mod map;
 mod page;
 mod scene;
 mod tree;

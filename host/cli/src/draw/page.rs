@@ -2,9 +2,10 @@
 
 use super::canvas::{shortened, width_of, Canvas, Pen, FAINT, GREEN, INK, RED};
 use super::cell::{self, Scale};
-use super::grid;
-use super::scene::{Blob, Cell, Role, Scene};
+use super::fold::{self, Folder};
+use super::scene::{Blob, Cell, Node, Role, Scene};
 use super::tree::place;
+use super::{grid, map};
 use crate::layout::{blocks, leaves};
 use crate::wording::counted;
 
@@ -12,6 +13,9 @@ const MARGIN: i32 = 28;
 /// Blobs stand side by side up to here.
 const WIDTH: i32 = 1_640;
 const BETWEEN_BLOBS: i32 = 36;
+/// What the trees are, in words.
+const ROOTS: &str = "root on top; a leaf holds up to 48 bytes, a block above up to 12 blocks";
+const FOLDED: &str = "root on top; drawn is what leads to refused and worn blocks and to the last leaf; other neighbours stand together in one box";
 /// Refused slots told in words at the top.
 const MOST_TOLD: usize = 12;
 
@@ -20,12 +24,31 @@ pub fn page(scene: &Scene, title: &str) -> String {
     canvas.text(MARGIN, 50, Pen::left(26, INK).bold(), title);
     let y = verdict(&mut canvas, scene, 80);
     let y = colours(&mut canvas, y + 14);
-    let y = heading(&mut canvas, "Slots", &counts(scene), y + 44);
-    let y = grid::draw(&mut canvas, scene, MARGIN, y);
-    let roots = "root on top; a leaf holds up to 48 bytes, a block above up to 12 blocks";
-    let y = heading(&mut canvas, "Blobs", roots, y + 52);
-    blobs(&mut canvas, scene, y);
+    let y = slots(&mut canvas, scene, y + 44);
+    let y = heading(&mut canvas, "Blobs", if scene.is_large() { FOLDED } else { ROOTS }, y + 52);
+    match scene.is_large() {
+        true => folded_blobs(&mut canvas, scene, y),
+        false => {
+            let whole = scene.blobs.iter().map(|blob| (blob, &blob.tree));
+            blobs(&mut canvas, scene, whole, Scale::of(scene.cells.len()), y);
+        }
+    }
     canvas.finish(MARGIN)
+}
+
+/// All slots: large enough to be read, or as dots, and then the refused ones again.
+fn slots(canvas: &mut Canvas, scene: &Scene, y: i32) -> i32 {
+    if !scene.is_large() {
+        let y = heading(canvas, "Slots", &counts(scene), y);
+        return grid::draw(canvas, scene, MARGIN, y);
+    }
+    let y = heading(canvas, "Slots", &format!("{}; {}", counts(scene), map::words(scene)), y);
+    let y = map::draw(canvas, scene, MARGIN, y);
+    if scene.refused().next().is_none() {
+        return y;
+    }
+    let y = heading(canvas, "Refused slots", &map::large_words(scene), y + 52);
+    map::draw_large(canvas, scene, MARGIN, y)
 }
 
 /// What the audit says, and each refused slot in words.
@@ -110,16 +133,43 @@ fn heading(canvas: &mut Canvas, words: &str, more: &str, y: i32) -> i32 {
     y + 14
 }
 
-/// The blobs from left to right, in as many lines as they need.
-fn blobs(canvas: &mut Canvas, scene: &Scene, top: i32) {
-    let scale = Scale::of(scene.cells.len());
+/// The blobs of a large store: some, and of these what stands out.
+fn folded_blobs(canvas: &mut Canvas, scene: &Scene, top: i32) {
+    let chosen = fold::chosen(scene);
+    let mut folder = Folder::new(scene);
+    let trees: Vec<Node> = chosen.iter().map(|blob| folder.fold(&blob.tree)).collect();
+    let drawn = chosen.iter().copied().zip(&trees);
+    let y = blobs(canvas, scene, drawn, Scale::Large, top);
+    let more = scene.blobs.len() - chosen.len();
+    if more > 0 {
+        let refused = |blobs: usize| counted(blobs as u64, "refused blob");
+        let all = scene.blobs.iter().filter(|blob| blob.length.is_err()).count();
+        let seen = chosen.iter().filter(|blob| blob.length.is_err()).count();
+        let words = format!(
+            "and {}, {} among them",
+            counted(more as u64, "more blob"),
+            refused(all - seen)
+        );
+        canvas.text(MARGIN, y + 28, Pen::left(13, FAINT), &words);
+    }
+}
+
+/// The blobs from left to right, in as many lines as they need. Answers the lower
+/// edge.
+fn blobs<'a>(
+    canvas: &mut Canvas,
+    scene: &Scene,
+    drawn: impl Iterator<Item = (&'a Blob, &'a Node)>,
+    scale: Scale,
+    top: i32,
+) -> i32 {
     let (mut x, mut y, mut tall) = (MARGIN, top, 0);
     if scene.blobs.is_empty() {
         canvas.text(MARGIN, y + 14, Pen::left(13, FAINT), "none");
     }
-    for blob in &scene.blobs {
-        let tree = place(&blob.tree, scale, WIDTH);
-        let (name, about) = (format!("Blob {}", blob.tree.slot), about(blob));
+    for (blob, tree) in drawn {
+        let tree = place(tree, scale, WIDTH);
+        let (name, about) = (format!("Blob {}", blob.root), about(blob));
         let wide = tree.width.max(width_of(&about, 11)).max(width_of(&name, 14));
         if x > MARGIN && x + wide > MARGIN + WIDTH {
             (x, y, tall) = (MARGIN, y + tall + BETWEEN_BLOBS, 0);
@@ -131,6 +181,7 @@ fn blobs(canvas: &mut Canvas, scene: &Scene, top: i32) {
         tall = tall.max(tree.height + 42);
         x += wide + BETWEEN_BLOBS;
     }
+    y + tall
 }
 
 fn about(blob: &Blob) -> String {

@@ -3,7 +3,13 @@
 
 use crate::layout::{self, block, records, Block, Record, State};
 use crate::survey::Survey;
+use std::collections::{HashMap, HashSet};
 use tjornsaki::Refusal;
+
+/// The greatest height of a root.
+const TALLEST: u8 = 5;
+/// Stores of more slots are too large to draw each of them.
+const MOST_DRAWN: usize = 1_024;
 
 #[derive(Clone, Copy, Debug, PartialEq, Eq)]
 pub enum Role {
@@ -30,15 +36,41 @@ impl Cell {
     pub fn worn(&self) -> bool {
         layout::worn(self.version)
     }
+
+    /// Whether it is to be seen also where most slots are not.
+    pub fn stands_out(&self) -> bool {
+        self.refusal.is_some() || self.worn()
+    }
+}
+
+/// What stands at one place of a tree.
+#[derive(Clone, Copy)]
+pub enum Part {
+    Slot(usize),
+    Run(Run),
+}
+
+/// Neighbours in a row that are drawn as one, and how many blocks are below them.
+#[derive(Clone, Copy)]
+pub struct Run {
+    pub first: usize,
+    pub last: usize,
+    pub blocks: usize,
+    /// Whether they are leaves, all of them.
+    pub leaves: bool,
+    pub below: usize,
+    /// How many of all these are refused.
+    pub refused: usize,
 }
 
 /// A block and those below it, as they are found.
 pub struct Node {
-    pub slot: usize,
+    pub part: Part,
     pub children: Vec<Node>,
 }
 
 pub struct Blob {
+    pub root: usize,
     pub tree: Node,
     pub length: Result<u64, Refusal>,
 }
@@ -56,11 +88,18 @@ impl Scene {
         let mut seen = vec![false; records.len()];
         let mut blobs = Vec::new();
         for blob in &survey.blobs {
-            let tree = node(pool, &records, blob.root as usize, 3, &mut seen);
-            blobs.push(Blob { tree, length: blob.length });
+            let root = blob.root as usize;
+            let tree = node(pool, &records, root, TALLEST, &mut seen);
+            blobs.push(Blob { root, tree, length: blob.length });
         }
-        let slots = (0..records.len()).map(|slot| cell(pool, records[slot], slot, &survey));
+        let judged = Judged::new(&survey);
+        let slots = (0..records.len()).map(|slot| cell(pool, records[slot], slot, &judged));
         Ok(Scene { cells: slots.collect(), blobs, audit: survey.audit })
+    }
+
+    /// Whether only parts of it are drawn.
+    pub fn is_large(&self) -> bool {
+        self.cells.len() > MOST_DRAWN
     }
 
     /// All refused slots, each once.
@@ -86,10 +125,25 @@ fn node(pool: &[u8], records: &[Record], slot: usize, height: u8, seen: &mut [bo
             children.push(node(pool, records, child, below, seen));
         }
     }
-    Node { slot, children }
+    Node { part: Part::Slot(slot), children }
 }
 
-fn cell(pool: &[u8], record: Record, slot: usize, survey: &Survey) -> Cell {
+/// What the survey says, by slots.
+struct Judged {
+    /// Of several refusals of a slot the first.
+    bad: HashMap<u64, Refusal>,
+    cut_off: HashSet<u64>,
+}
+
+impl Judged {
+    fn new(survey: &Survey) -> Judged {
+        let refusals = survey.bad.iter().rev().map(|bad| bad.refusal);
+        let bad = refusals.filter_map(|refusal| refusal.slot.map(|slot| (slot, refusal)));
+        Judged { bad: bad.collect(), cut_off: survey.cut_off.iter().copied().collect() }
+    }
+}
+
+fn cell(pool: &[u8], record: Record, slot: usize, judged: &Judged) -> Cell {
     let found = block(pool, slot);
     let tall = found.map_or(false, |block| block.marked() && block.height() > 0);
     let role = match record.state {
@@ -99,9 +153,8 @@ fn cell(pool: &[u8], record: Record, slot: usize, survey: &Survey) -> Cell {
         State::Part if tall => Role::Inner,
         State::Part => Role::Leaf,
     };
-    let bad = survey.bad.iter().find(|bad| bad.refusal.slot == Some(slot as u64));
-    let refusal = bad.map(|bad| bad.refusal);
-    let cut_off = survey.cut_off.contains(&(slot as u64));
+    let refusal = judged.bad.get(&(slot as u64)).copied();
+    let cut_off = judged.cut_off.contains(&(slot as u64));
     let claims =
         found.filter(|block| !block.blank()).and_then(|block| claims(slot, record, &block));
     Cell { slot, role, version: record.version, refusal, cut_off, claims }

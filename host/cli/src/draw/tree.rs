@@ -6,7 +6,7 @@
 
 use super::canvas::Canvas;
 use super::cell::{self, Scale};
-use super::scene::{Node, Scene};
+use super::scene::{Node, Part, Scene};
 
 /// Leaves side by side in a stack.
 const STACK: usize = 3;
@@ -22,7 +22,7 @@ pub struct Placed {
     pub height: i32,
     /// The middle of the topmost block.
     middle: i32,
-    boxes: Vec<(i32, i32, usize)>,
+    boxes: Vec<(i32, i32, Part)>,
     lines: Vec<((i32, i32), (i32, i32))>,
 }
 
@@ -30,7 +30,7 @@ impl Placed {
     /// Takes another in, moved.
     fn take(&mut self, other: Placed, x: i32, y: i32) {
         let moved = |(a, b): (i32, i32)| (a + x, b + y);
-        self.boxes.extend(other.boxes.iter().map(|(a, b, slot)| (a + x, b + y, *slot)));
+        self.boxes.extend(other.boxes.iter().map(|(a, b, part)| (a + x, b + y, *part)));
         self.lines.extend(other.lines.iter().map(|(from, to)| (moved(*from), moved(*to))));
         self.width = self.width.max(x + other.width);
         self.height = self.height.max(y + other.height);
@@ -40,11 +40,16 @@ impl Placed {
         for ((a, b), (c, d)) in &self.lines {
             canvas.line((x + a, y + b), (x + c, y + d));
         }
-        for (a, b, slot) in &self.boxes {
-            cell::draw(canvas, &scene.cells[*slot], x + a, y + b, scale);
+        for (a, b, part) in &self.boxes {
+            match part {
+                Part::Slot(slot) => cell::draw(canvas, &scene.cells[*slot], x + a, y + b, scale),
+                Part::Run(run) => cell::draw_run(canvas, run, x + a, y + b),
+            }
         }
-        for (a, b, slot) in &self.boxes {
-            cell::flag(canvas, &scene.cells[*slot], x + a, y + b, scale);
+        for (a, b, part) in &self.boxes {
+            if let Part::Slot(slot) = part {
+                cell::flag(canvas, &scene.cells[*slot], x + a, y + b, scale);
+            }
         }
     }
 }
@@ -53,7 +58,7 @@ impl Placed {
 pub fn place(node: &Node, scale: Scale, limit: i32) -> Placed {
     let leaves = node.children.iter().all(|child| child.children.is_empty());
     if node.children.is_empty() {
-        return single(node.slot, scale);
+        return single(node.part, scale);
     }
     if leaves && scale == Scale::Small {
         return stack(node, scale);
@@ -63,15 +68,15 @@ pub fn place(node: &Node, scale: Scale, limit: i32) -> Placed {
         node.children.iter().map(|child| place(child, scale, limit - indent)).collect();
     let wide: i32 = children.iter().map(|child| child.width + ASIDE).sum();
     if wide - ASIDE <= limit {
-        row(node.slot, children, scale)
+        row(node.part, children, scale)
     } else {
-        rows(node.slot, children, scale, limit, indent)
+        rows(node.part, children, scale, limit, indent)
     }
 }
 
-fn single(slot: usize, scale: Scale) -> Placed {
+fn single(part: Part, scale: Scale) -> Placed {
     let (width, height) = scale.size();
-    Placed { width, height, middle: width / 2, boxes: vec![(0, 0, slot)], lines: vec![] }
+    Placed { width, height, middle: width / 2, boxes: vec![(0, 0, part)], lines: vec![] }
 }
 
 /// A block over its leaves, several rows of them without gaps.
@@ -81,16 +86,16 @@ fn stack(node: &Node, scale: Scale) -> Placed {
     let middle = w * columns as i32 / 2;
     let mut placed = Placed { middle, ..Placed::default() };
     placed.lines.push(((middle, h), (middle, h + DOWN / 2)));
-    placed.take(single(node.slot, scale), middle - w / 2, 0);
+    placed.take(single(node.part, scale), middle - w / 2, 0);
     for (place, leaf) in node.children.iter().enumerate() {
         let (column, row) = ((place % columns) as i32, (place / columns) as i32);
-        placed.take(single(leaf.slot, scale), column * w, h + DOWN / 2 + row * h);
+        placed.take(single(leaf.part, scale), column * w, h + DOWN / 2 + row * h);
     }
     placed
 }
 
 /// A block over one row of children.
-fn row(slot: usize, children: Vec<Placed>, scale: Scale) -> Placed {
+fn row(part: Part, children: Vec<Placed>, scale: Scale) -> Placed {
     let (w, h) = scale.size();
     let mut placed = Placed::default();
     let (mut x, mut middles) = (0, Vec::new());
@@ -107,12 +112,12 @@ fn row(slot: usize, children: Vec<Placed>, scale: Scale) -> Placed {
     placed.lines.push(((first, bar), (last, bar)));
     placed.lines.extend(middles.iter().map(|middle| ((*middle, bar), (*middle, h + DOWN))));
     let left = placed.middle - w / 2;
-    placed.take(single(slot, scale), left, 0);
+    placed.take(single(part, scale), left, 0);
     placed
 }
 
 /// A block over several rows of children, beside a line from the block.
-fn rows(slot: usize, children: Vec<Placed>, scale: Scale, limit: i32, indent: i32) -> Placed {
+fn rows(part: Part, children: Vec<Placed>, scale: Scale, limit: i32, indent: i32) -> Placed {
     let (w, h) = scale.size();
     let spine = w / 2;
     let mut placed = Placed { middle: spine, ..Placed::default() };
@@ -131,6 +136,6 @@ fn rows(slot: usize, children: Vec<Placed>, scale: Scale, limit: i32, indent: i3
         x += wide + ASIDE;
     }
     placed.lines.push(((spine, h), (spine, bar)));
-    placed.take(single(slot, scale), 0, 0);
+    placed.take(single(part, scale), 0, 0);
     placed
 }

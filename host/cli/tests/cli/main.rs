@@ -11,6 +11,7 @@ mod faults;
 mod files;
 mod help;
 mod json;
+mod large;
 mod late;
 mod locks;
 mod numbers;

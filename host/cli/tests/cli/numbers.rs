@@ -59,17 +59,23 @@ fn huge_numbers_are_refused() {
     assert_eq!(folder.store(), before);
 }
 
+/// To 65,536: until pools could be larger, 1,025 was refused here.
 #[test]
-fn slots_from_1_to_1024() {
+fn slots_from_1_to_65536() {
     let folder = Folder::new("slots");
-    for slots in ["0", "1025", "18446744073709551615"] {
+    for slots in ["0", "65537", "18446744073709551615"] {
         let ended = folder.run(&["init", "--slots", slots]);
-        ended.fails(64, &format!("--slots takes 1 to 1024, not {slots}"));
+        ended.fails(64, &format!("--slots takes 1 to 65536, not {slots}"));
     }
     assert!(folder.names().is_empty());
+    assert!(folder.run(&["init", "--help"]).text().contains("how many slots, 1 to 65536 (16)"));
     folder.run(&["init", "--slots", "1024"]).gives("1024 free slots\n");
     folder.run(&["create"]).gives("0\n");
     folder.run(&["resize", "0", "44977"]).fails(11, "refused 11");
     folder.run(&["resize", "0", "44976"]).gives("blob 0 has 44976 bytes\n");
     folder.run(&["audit"]).gives("sound: 1024 of 1024 slots in use\n");
+    let folder = Folder::with_store("slots_1025", 1_025);
+    folder.run(&["create"]).gives("0\n");
+    folder.run(&["resize", "0", "44977"]).gives("blob 0 has 44977 bytes\n");
+    folder.run(&["audit"]).gives("sound: 1025 of 1025 slots in use\n");
 }

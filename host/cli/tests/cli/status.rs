@@ -35,7 +35,7 @@ fn worn_slots() {
 /// The largest new blob fits, and no larger one does.
 #[test]
 fn the_largest_new_blob() {
-    for slots in [1, 2, 3, 13, 14, 15, 16, 17, 40, 157, 161, 1024] {
+    for slots in [1, 2, 3, 13, 14, 15, 16, 17, 40, 157, 161, 1024, 1025, 65536] {
         let folder = Folder::with_store(&format!("status_{slots}"), slots);
         let status = folder.run(&["status"]);
         let line = status.text().lines().last().unwrap();

@@ -1,7 +1,7 @@
 //! The walk against the library, over spoilt stores by the thousand.
 
 use super::super::*;
-use super::{large, small, Store};
+use super::{large, small, tall, tallest, Store};
 use crate::layout::Block;
 use tjornsaki::{BLOCK_BYTES, RECORD_BYTES};
 
@@ -92,6 +92,26 @@ fn spoilt_pools() {
             sound += usize::from(agrees(&pool, &store.records));
         }
         assert!(0 < sound && sound < rounds / 2, "{sound} of {rounds}");
+    }
+}
+
+/// The same with heights that only stores of more than 1,024 slots have. Blocks of
+/// the upper heights lie anywhere, so each round spoils the root or one of its
+/// children besides.
+#[test]
+fn spoilt_pools_of_tall_blobs() {
+    let mut chance = Chance(2463534242);
+    for (store, rounds) in [(tall(), 150), (tallest(), 15)] {
+        let children = block(&store.pool(), 0).map_or(vec![], |block| block.children());
+        assert!(agrees(&store.pool(), &store.records));
+        for round in 0..rounds {
+            let mut pool = store.pool();
+            spoil(&mut pool, &store, &mut chance);
+            let slot = if round % 3 == 0 { 0 } else { children[chance.below(children.len())] };
+            let place = [2, 3, 8, 16, 20, 22][chance.below(6)];
+            pool[slot * BLOCK_BYTES + place] = chance.below(14) as u8;
+            agrees(&pool, &store.records);
+        }
     }
 }
 

@@ -43,3 +43,13 @@ fn small() -> Store {
 fn large() -> Store {
     Store::new(200, &[700, 48, 3_000, 577, 90])
 }
+
+/// With a root of height 4 and one of height 1.
+fn tall() -> Store {
+    Store::new(2_000, &[82_945, 100])
+}
+
+/// With a root of height 5.
+fn tallest() -> Store {
+    Store::new(22_700, &[995_329, 100])
+}
