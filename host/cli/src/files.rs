@@ -14,6 +14,9 @@ use std::path::{Path, PathBuf};
 /// longer is read up to one byte more, which the store then refuses.
 pub const MOST_BYTES: u64 = (tjornsaki::BLOCK_BYTES * tjornsaki::MOST_SLOTS) as u64;
 
+/// No records are longer.
+pub const MOST_RECORDS: u64 = (tjornsaki::RECORD_BYTES * tjornsaki::MOST_SLOTS) as u64;
+
 /// Flags of the kernel for opening a file: wait for nobody; follow no link.
 const AT_ONCE: i32 = 0o4000;
 const NO_LINK: i32 = 0o400000;

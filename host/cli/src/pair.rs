@@ -21,7 +21,7 @@
 use crate::failure::{Failure, DENIED, EXISTS, LOCKED, MISSING};
 use crate::files::{
     beside, check_plain, check_writable, is_there, read, read_if_there, remove, resolved_other,
-    same, save, Folder, MOST_BYTES,
+    same, save, Folder, MOST_BYTES, MOST_RECORDS,
 };
 use crate::lock::{self, Lock};
 use crate::log::{Lies, Log, MOST_LOG};
@@ -249,7 +249,8 @@ impl Place {
                 return Err(Failure::Other(EXISTS, words + " through one"));
             }
         }
-        for path in [&self.pool, &self.records, &self.log] {
+        let (pool, records) = (Some(MOST_BYTES), Some(MOST_RECORDS));
+        for (path, most) in [(&self.pool, pool), (&self.records, records), (&self.log, None)] {
             let name = path.display();
             if !is_there(path)? {
                 continue;
@@ -259,9 +260,12 @@ impl Place {
                 return Err(Failure::Other(EXISTS, format!("{name} exists; {words}")));
             }
             check_writable(path)?;
-            if *path != self.log && read(path)?.len() as u64 > MOST_BYTES {
-                let words = format!("{name} is too long for a part of a store");
-                return Err(Failure::Other(EXISTS, words));
+            match most {
+                Some(most) if read(path)?.len() as u64 > most => {
+                    let words = format!("{name} is too long for a part of a store");
+                    return Err(Failure::Other(EXISTS, words));
+                }
+                _ => (),
             }
         }
         Ok(())

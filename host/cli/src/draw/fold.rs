@@ -4,7 +4,7 @@
 use super::scene::{Blob, Node, Part, Role, Run, Scene};
 
 /// Blobs that are drawn.
-pub const MOST_BLOBS: usize = 60;
+const MOST_BLOBS: usize = 60;
 /// Blocks that stand out and are drawn, in all trees together.
 const MOST_BLOCKS: usize = 60;
 /// A blob of a root and one row is drawn whole.

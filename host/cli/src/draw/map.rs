@@ -7,7 +7,7 @@ use super::scene::{Cell, Scene};
 use crate::wording::counted;
 
 /// Refused slots that are drawn large.
-pub const MOST_LARGE: usize = 60;
+const MOST_LARGE: usize = 60;
 /// Large slots side by side.
 const ASIDE: usize = 15;
 /// Room for the numbers left of the dots.

@@ -147,11 +147,15 @@ fn output_never_replaces_the_store() {
     assert_eq!(folder.store(), before);
 }
 
+/// One byte more than the most is too long. A pool of 1,000,000 bytes was, and is
+/// not in a store of up to 65,536 slots; records of that length still are.
 #[test]
 fn init_replaces_no_long_files() {
     let folder = Folder::with_blob("long");
-    let long = vec![1; 1_000_000];
-    for name in ["store.pool", "store.records"] {
+    for (name, size) in
+        [("store.pool", 4_194_305), ("store.records", 786_433), ("store.records", 1_000_000)]
+    {
+        let long = vec![1; size];
         let before = folder.read(name);
         folder.write(name, &long);
         folder
@@ -160,6 +164,9 @@ fn init_replaces_no_long_files() {
         assert_eq!(folder.read(name), long);
         folder.write(name, &before);
     }
+    folder.write("store.pool", &[1; 4_194_304]);
+    folder.write("store.records", &[1; 786_432]);
+    folder.run(&["init", "--force", "--forget-history"]).gives("16 free slots\n");
 }
 
 #[test]
