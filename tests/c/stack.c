@@ -95,6 +95,18 @@ static void read_table(const char *path)
     }
 }
 
+/* A pool between two of the table's sizes takes no more than the larger; one of up to 128 slots no more than one of 64, which has the same rows. */
+static int fits_column(const char *function, size_t slots, size_t some)
+{
+    size_t row, column = slots <= 128 ? 0 : slots <= 1024 ? 1 : slots <= 8192 ? 2 : 3;
+    for (row = 0; row < rows; row++) {
+        if (strcmp(table[row].name, function) == 0 && some > table[row].bytes[column] + SLACK) {
+            return 0;
+        }
+    }
+    return 1;
+}
+
 /* Keeps the most that was found for a function at one of the table's sizes. */
 static void keep(const char *function, size_t slots, size_t some)
 {
@@ -144,9 +156,9 @@ static void measure(const char *function, void (*call)(void), uint64_t refusal, 
     size_t slots = pool_length / TJ_BLOCK, some;
     answer[TJ_REFUSAL] = refusal;
     some = stack_of(call);
-    if (answer[TJ_REFUSAL] != refusal || some > most) {
+    if (answer[TJ_REFUSAL] != refusal || some > most || !fits_column(function, slots, some)) {
         failures++;
-        fprintf(stderr, "%s, %zu slots: refused with %d, and %zu bytes of stack, not at most %zu\n", function, slots, (int)answer[TJ_REFUSAL], some, most);
+        fprintf(stderr, "%s, %zu slots: refused with %d, and %zu bytes of stack, not at most %zu or the table's\n", function, slots, (int)answer[TJ_REFUSAL], some, most);
     }
     if (refusal == TJ_DONE) {
         keep(function, slots, some);
