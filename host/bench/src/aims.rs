@@ -1,7 +1,9 @@
 //! The aims, and whether the measured times meet them.
 
 use crate::cases::{NAMES, READ, READING, SCAN, SCAN_LEAVES};
+use crate::growth::Runs;
 use crate::page::{thousands, Result};
+use crate::scale;
 use crate::stores::{Fill, FILLS, SIZES};
 
 /// The most of the reference's time that a reading call may take.
@@ -16,6 +18,8 @@ pub const SCAN_MOST: f64 = 1.3;
 pub const SCAN_LEAVES_MOST: f64 = 3.0;
 /// The most by which the time per slot at 1,024 slots may exceed that at 64.
 pub const GROWTH_MOST: f64 = 1.25;
+/// The greatest exponent of time over slots in larger pools, where caches allow.
+pub const EXPONENT_MOST: f64 = 1.05;
 
 /// The result of a case.
 pub fn find<'a>(results: &'a [Result], name: &str, fill: Fill, slots: usize) -> &'a Result {
@@ -25,55 +29,98 @@ pub fn find<'a>(results: &'a [Result], name: &str, fill: Fill, slots: usize) -> 
 }
 
 /// A line for each aim: what it is, and where it is not met.
-pub fn lines(results: &[Result]) -> String {
+pub fn lines(results: &[Result], runs: &Runs) -> String {
     let (reading, changing) = NAMES.split_at(READING);
     let mut text = String::from(
         "| aim | store | met? if not, where: value and number of slots |\n|---|---|---|\n",
     );
     for fill in FILLS {
-        text += &ratio_line(results, fill, "reading calls", reading, READING_MOST);
-        text += &ratio_line(results, fill, "changing calls", changing, CHANGING_MOST);
+        text += &ratio_line(results, &SIZES, fill, "reading calls", reading, READING_MOST);
+        text += &ratio_line(results, &SIZES, fill, "changing calls", changing, CHANGING_MOST);
     }
-    text += &copies_line(results);
-    text += &scan_line(results, SCAN, "in one asking", SCAN_MOST);
-    text += &scan_line(results, SCAN_LEAVES, "in askings of 48 bytes", SCAN_LEAVES_MOST);
+    text += &read_lines(results, &SIZES);
     text += &growth_line(results);
+    if runs.count() > 0 {
+        text += &larger_lines(runs);
+    }
     text
 }
 
-fn ratio_line(results: &[Result], fill: Fill, what: &str, names: &[&str], most: f64) -> String {
+/// The same for larger pools, beside which changing calls of the reference are
+/// not measured, and the exponents.
+fn larger_lines(runs: &Runs) -> String {
+    let (results, sizes) = (runs.results(), &scale::SIZES[2..]);
+    let reading = &scale::names()[..scale::READING_NAMES];
+    let mut text = String::new();
+    for fill in FILLS {
+        text += &exponent_line(runs, fill);
+    }
+    for fill in FILLS {
+        text += &ratio_line(&results, sizes, fill, "reading calls", reading, READING_MOST);
+    }
+    text + &read_lines(&results, sizes)
+}
+
+/// Aims of a whole blob's read, and of scans beside it.
+fn read_lines(results: &[Result], sizes: &[usize]) -> String {
+    copies_line(results, sizes)
+        + &scan_line(results, sizes, SCAN, "in one asking", SCAN_MOST)
+        + &scan_line(results, sizes, SCAN_LEAVES, "in askings of 48 bytes", SCAN_LEAVES_MOST)
+}
+
+/// Where an aim is said for the second time.
+fn place(sizes: &[usize]) -> &'static str {
+    if sizes == SIZES {
+        ""
+    } else {
+        "in larger pools "
+    }
+}
+
+fn ratio_line(
+    results: &[Result],
+    sizes: &[usize],
+    fill: Fill,
+    what: &str,
+    names: &[&str],
+    most: f64,
+) -> String {
     let mut missed = Vec::new();
     for name in names {
-        let over = over(most, |slots| find(results, name, fill, slots).ratio());
+        let over = over(sizes, most, |slots| find(results, name, fill, slots).ratio());
         if !over.is_empty() {
             missed.push(format!("{}: {}", name, over.join(", ")));
         }
     }
-    row(&format!("{} take at most {:.1} of the reference's time", what, most), fill, &missed)
+    let place = place(sizes);
+    let aim = format!("{}{} take at most {:.1} of the reference's time", place, what, most);
+    row(&aim, fill, &missed)
 }
 
 /// Where a number is above the most, and what it is there.
-fn over(most: f64, number: impl Fn(usize) -> f64) -> Vec<String> {
-    let numbers = SIZES.iter().map(|slots| (*slots, number(*slots)));
+fn over(sizes: &[usize], most: f64, number: impl Fn(usize) -> f64) -> Vec<String> {
+    let numbers = sizes.iter().map(|slots| (*slots, number(*slots)));
     let above = numbers.filter(|(_, number)| *number > most);
     above.map(|(slots, number)| format!("{:.2} at {}", number, thousands(slots as u64))).collect()
 }
 
-fn copies_line(results: &[Result]) -> String {
+fn copies_line(results: &[Result], sizes: &[usize]) -> String {
     let copies = |slots| find(results, READ, Fill::Full, slots).pool_copies();
+    let place = place(sizes);
     row(
-        &format!("a whole blob's read takes at most {} copies of its blocks", COPIES_MOST),
+        &format!("{}a whole blob's read takes at most {} copies of its blocks", place, COPIES_MOST),
         Fill::Full,
-        &over(COPIES_MOST, copies),
+        &over(sizes, COPIES_MOST, copies),
     )
 }
 
-fn scan_line(results: &[Result], name: &str, how: &str, most: f64) -> String {
+fn scan_line(results: &[Result], sizes: &[usize], name: &str, how: &str, most: f64) -> String {
     let time = |name, slots| find(results, name, Fill::Full, slots).times.proved;
+    let (place, whole) = (place(sizes), "of the time of a whole blob's read");
     row(
-        &format!("a scan {} takes at most {} of the time of a whole blob's read", how, most),
+        &format!("{}a scan {} takes at most {} {}", place, how, most, whole),
         Fill::Full,
-        &over(most, |slots| time(name, slots) / time(READ, slots)),
+        &over(sizes, most, |slots| time(name, slots) / time(READ, slots)),
     )
 }
 
@@ -96,6 +143,23 @@ fn growth_line(results: &[Result]) -> String {
 pub fn growth(results: &[Result], name: &str) -> f64 {
     let at = |slots| find(results, name, Fill::Full, slots).per_slot();
     at(1024) / at(64)
+}
+
+/// Judged over all sizes; where it is missed, what it is in the second cache
+/// stands beside it.
+fn exponent_line(runs: &Runs, fill: Fill) -> String {
+    let mut missed = Vec::new();
+    for name in scale::names() {
+        let [cached, all] = [3, 4].map(|sizes| runs.exponent(name, fill, sizes));
+        if all.middle > EXPONENT_MOST {
+            missed.push(format!(
+                "{}: {:.3} ({:.3} to {:.3}), {:.3} up to 8,192",
+                name, all.middle, all.least, all.most, cached.middle
+            ));
+        }
+    }
+    let what = "from 64 to 65,536 slots time grows by an exponent of at most";
+    row(&format!("{} {}, where caches allow", what, EXPONENT_MOST), fill, &missed)
 }
 
 fn row(aim: &str, fill: Fill, missed: &[String]) -> String {

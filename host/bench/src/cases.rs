@@ -28,6 +28,8 @@ pub struct Case {
 pub const READ: &str = "read, whole blob";
 pub const SCAN: &str = "scan, one asking";
 pub const SCAN_LEAVES: &str = "scan, 48 bytes at a time";
+/// The opening alone, which larger pools are measured by too.
+pub const OPEN: &str = "open a head";
 
 /// Names of the cases in the order of the tables.
 pub const NAMES: [&str; 16] = [
@@ -52,7 +54,7 @@ pub const NAMES: [&str; 16] = [
 /// How many of them, the first, only read.
 pub const READING: usize = 7;
 
-/// Every case.
+/// Every case of the first tables.
 pub fn all() -> Vec<Case> {
     FILLS.into_iter().flat_map(of_fill).collect()
 }
@@ -78,7 +80,7 @@ macro_rules! both {
     }};
 }
 
-fn case(name: &'static str, fill: Fill, slots: usize) -> Case {
+pub fn case(name: &'static str, fill: Fill, slots: usize) -> Case {
     let spare = match name {
         "create" => 1,
         "resize, one leaf more" => 4,
@@ -88,8 +90,8 @@ fn case(name: &'static str, fill: Fill, slots: usize) -> Case {
     if name == "resize, from 0 to all" {
         cut(&mut before, root);
     }
-    let index = NAMES.iter().position(|other| *other == name).unwrap_or(0);
-    let checks_one_blob = index < READING && name != "audit";
+    let changes = NAMES[READING..].contains(&name);
+    let checks_one_blob = !changes && name != "audit";
     let pool_bytes = BLOCK * if checks_one_blob { blocks(length) } else { slots };
     let lent = match name {
         READ | SCAN | SCAN_LEAVES | "write, whole blob" => length,
@@ -98,11 +100,11 @@ fn case(name: &'static str, fill: Fill, slots: usize) -> Case {
     };
     let mut case = Case {
         name,
-        changes: index >= READING,
+        changes,
         fill,
         slots,
         before,
-        output: if index < READING { lent } else { 0 },
+        output: if changes { 0 } else { lent },
         touched: RECORD * slots + pool_bytes + lent,
         pool_bytes,
         proved: Box::new(|_, _| 0),
@@ -131,6 +133,7 @@ fn set_reading(case: &mut Case, root: u64, length: usize) {
         "read, 48 bytes" => both!(case, |s, out, side| {
             side::read(&s.pool, &s.records, root, middle, out).map_or(1, |_| 0)
         }),
+        OPEN => set_open(case, root),
         SCAN => set_scan(case, root, length),
         SCAN_LEAVES => set_scan(case, root, LEAF),
         "show, last leaf" => set_show(case, root, (length / LEAF - 1) as u64),
@@ -149,6 +152,16 @@ fn set_scan(case: &mut Case, root: u64, size: usize) {
         let mut head = [0; 4];
         reference::open_head(&s.pool, &s.records, root, &mut head).unwrap();
         out.chunks_mut(size).map(|piece| reference::next(&s.pool, &mut head, piece)).sum()
+    });
+}
+
+fn set_open(case: &mut Case, root: u64) {
+    case.proved =
+        Box::new(move |s, _| tjornsaki::Head::open(&s.pool, &s.records, root).unwrap().length());
+    case.reference = Box::new(move |s, _| {
+        let mut head = [0; 4];
+        reference::open_head(&s.pool, &s.records, root, &mut head).unwrap();
+        head[2]
     });
 }
 

@@ -4,15 +4,20 @@
 //!     bench count                   each call once, to be counted by valgrind
 //!     bench repeat CALL FILL SLOTS TIMES
 //!                                   one call of the library, to be sampled by perf; fills are full, many, bare
-//!     bench write FOLDER ROUNDS MACHINE COUNTS PROFILE
+//!     bench agree                   each call in larger pools once, library and reference compared
+//!     bench scale NUMBER            one run over larger pools: prints a line for each case
+//!     bench write FOLDER ROUNDS MACHINE COUNTS PROFILE SCALE
 //!                                   measures, and writes BENCHMARKS.md and benchmarks.svg
 
 mod aims;
 mod cases;
 mod counts;
+mod grown;
+mod growth;
 mod measure;
 mod page;
 mod plot;
+mod scale;
 mod stores;
 
 use cases::{Call, Case};
@@ -26,11 +31,15 @@ fn main() {
     let done = match words[..] {
         ["count"] => count(),
         ["repeat", name, fill, slots, times] => repeat(name, fill, slots, times),
-        ["write", folder, rounds, machine, counts, profile] => {
-            write(folder, rounds, machine, counts, profile)
+        ["agree"] => agree(),
+        ["scale", run] => run.parse().map(scale::run).map_err(|_| "the run is no number".into()),
+        ["write", folder, rounds, machine, counts, profile, runs] => {
+            let texts =
+                [counts, profile, runs].map(|name| fs::read_to_string(name).unwrap_or_default());
+            write(folder, rounds, machine, &texts)
         }
-        _ => Err("usage: bench count | bench repeat CALL FILL SLOTS TIMES \
-                  | bench write FOLDER ROUNDS MACHINE COUNTS PROFILE"
+        _ => Err("usage: bench count | bench repeat CALL FILL SLOTS TIMES | bench agree \
+                  | bench scale NUMBER | bench write FOLDER ROUNDS MACHINE COUNTS PROFILE SCALE"
             .into()),
     };
     if let Err(why) = done {
@@ -59,9 +68,10 @@ fn count() -> Result<(), String> {
 fn repeat(name: &str, fill: &str, slots: &str, times: &str) -> Result<(), String> {
     let times: usize = times.parse().map_err(|_| "the number of times is no number")?;
     let fill = FILLS.into_iter().find(|other| other.word() == fill).ok_or("no such fill")?;
-    let fits = |case: &&Case| case.name == name && case.slots.to_string() == slots;
-    let cases = cases::of_fill(fill);
-    let case = cases.iter().find(fits).ok_or("no such call, or no such number of slots")?;
+    let slots: usize = slots.parse().map_err(|_| "the number of slots is no number")?;
+    let names = scale::names();
+    let fits = |other: &&&str| **other == name && name != scale::NEXT;
+    let case = &cases::case(names.iter().find(fits).ok_or("no such call")?, fill, slots);
     let (mut store, mut output) = (case.before.clone(), vec![0; case.output]);
     for _ in 0..times {
         store.refresh(&case.before);
@@ -84,16 +94,20 @@ pub fn counted_call(call: &Call, store: &mut Store, output: &mut [u8]) -> u64 {
     call(store, output)
 }
 
-fn write(
-    folder: &str,
-    rounds: &str,
-    machine: &str,
-    counts: &str,
-    profile: &str,
-) -> Result<(), String> {
+/// Every call in larger pools, on both sides. The askings of a head are compared
+/// in each run.
+fn agree() -> Result<(), String> {
+    for (fill, slots, name) in scale::cases().filter(|(_, _, name)| *name != scale::NEXT) {
+        same_outcome(&cases::case(name, fill, slots))?;
+    }
+    Ok(())
+}
+
+/// Counts, profile and runs over larger pools come as texts.
+fn write(folder: &str, rounds: &str, machine: &str, texts: &[String; 3]) -> Result<(), String> {
     let rounds: usize = rounds.parse().map_err(|_| "the number of rounds is no number")?;
-    let counts = counts::counts(&fs::read_to_string(counts).unwrap_or_default());
-    let profile = fs::read_to_string(profile).unwrap_or_default();
+    let [counts, profile, runs] = texts;
+    let (counts, runs) = (counts::counts(counts), growth::runs(runs));
     let cases = cases::all();
     for case in &cases {
         same_outcome(case)?;
@@ -101,8 +115,8 @@ fn write(
     let times = measure::measure(&cases, rounds.max(1));
     let results: Vec<page::Result> =
         cases.iter().zip(times).map(|(case, times)| page::Result::new(case, times)).collect();
-    let page = page::page(&results, machine, rounds.max(1), &counts, &profile);
-    let plot = plot::plot(&results, machine);
+    let page = page::page(&results, machine, rounds.max(1), &counts, profile, &runs);
+    let plot = plot::plot(&results, &runs, machine);
     put(&Path::new(folder).join("BENCHMARKS.md"), &page)?;
     put(&Path::new(folder).join("benchmarks.svg"), &plot)
 }

@@ -22,7 +22,7 @@ const BATCH_BYTES: usize = 32 * 1024;
 const IN_A_ROW: usize = 10;
 
 /// One case with its copies of the store, and what was measured of it so far.
-struct Trial<'a> {
+pub struct Trial<'a> {
     case: &'a Case,
     stores: Vec<Store>,
     output: Vec<u8>,
@@ -52,7 +52,7 @@ pub fn measure(cases: &[Case], rounds: usize) -> Vec<Times> {
 /// Works this many calls deeper in the stack. Where things lie in memory makes
 /// a call faster or slower, so stack and stores lie elsewhere in each round.
 #[inline(never)]
-fn deeper(levels: usize, work: &mut dyn FnMut()) {
+pub fn deeper(levels: usize, work: &mut dyn FnMut()) {
     match levels {
         0 => work(),
         _ => deeper(levels - 1, &mut || work()),
@@ -60,7 +60,7 @@ fn deeper(levels: usize, work: &mut dyn FnMut()) {
 }
 
 /// What two looks at the clock with nothing between them take, median.
-fn clock() -> f64 {
+pub fn clock() -> f64 {
     let mut samples: Vec<f64> = (0..10_001)
         .map(|_| {
             let start = Instant::now();
@@ -70,14 +70,14 @@ fn clock() -> f64 {
     median(&mut samples)
 }
 
-/// The value in the middle.
-fn median(samples: &mut [f64]) -> f64 {
+/// The value in the middle, if there is any.
+pub fn median(samples: &mut [f64]) -> f64 {
     samples.sort_by(|a, b| a.total_cmp(b));
-    samples[samples.len() / 2]
+    samples.get(samples.len() / 2).copied().unwrap_or(f64::NAN)
 }
 
 impl Trial<'_> {
-    fn new(case: &Case) -> Trial<'_> {
+    pub fn new(case: &Case) -> Trial<'_> {
         let size = case.before.pool.len() + case.before.records.len();
         let batch = (BATCH_BYTES / size).max(1);
         Trial {
@@ -93,7 +93,7 @@ impl Trial<'_> {
     }
 
     /// Lays stores and areas elsewhere: what is before them has another size.
-    fn move_on(&mut self, round: usize) {
+    pub fn move_on(&mut self, round: usize) {
         let before = vec![1u8; 16 * ((round * 37) % 509)];
         self.stores = vec![self.case.before.clone(); self.stores.len()];
         self.output = vec![0; self.case.output];
@@ -105,13 +105,18 @@ impl Trial<'_> {
     /// Some samples of each kind in turn, after one that is not counted. Library
     /// and reference change places from round to round.
     fn round(&mut self, round: usize, empty: f64) {
+        self.take(IN_A_ROW, round, empty, true);
+    }
+
+    /// So many samples of each kind, or of each but the reference.
+    pub fn take(&mut self, samples: usize, round: usize, empty: f64, with_reference: bool) {
         let case = self.case;
-        for sample in 0..=IN_A_ROW {
+        for sample in 0..=samples {
             let mut kinds = [0, 1, 2, 3];
             if (round + sample) % 2 == 1 {
                 kinds.swap(0, 1);
             }
-            for kind in kinds {
+            for kind in kinds.into_iter().filter(|kind| with_reference || *kind != 1) {
                 let nanoseconds = match kind {
                     0 => self.call(&case.proved),
                     1 => self.call(&case.reference),
@@ -149,7 +154,8 @@ impl Trial<'_> {
         time
     }
 
-    fn times(&mut self) -> Times {
+    /// The medians; none is a number where no sample was taken.
+    pub fn times(&mut self) -> Times {
         let [proved, reference, copy, copy_pool] = &mut self.samples;
         Times {
             proved: median(proved),
@@ -162,6 +168,6 @@ impl Trial<'_> {
 
 /// memcpy, kept as a call of its own.
 #[inline(never)]
-fn plain_copy(to: &mut [u8], from: &[u8]) {
+pub fn plain_copy(to: &mut [u8], from: &[u8]) {
     to.copy_from_slice(from);
 }

@@ -3,6 +3,8 @@
 use crate::aims;
 use crate::cases::{Case, NAMES};
 use crate::counts::Counts;
+use crate::grown;
+use crate::growth::Runs;
 use crate::measure::Times;
 use crate::stores::{Fill, FILLS, SIZES};
 
@@ -53,17 +55,19 @@ pub fn page(
     rounds: usize,
     counts: &Counts,
     profile: &str,
+    runs: &Runs,
 ) -> String {
     let samples = (10 * rounds).to_string();
     let mut text = HEAD.replace("MACHINE", machine).replace("SAMPLES", &samples);
     text = text.replace("ROUNDS", &rounds.to_string());
     text += "\n## The aims\n\n";
-    text += &aims::lines(results);
+    text += &aims::lines(results, runs);
     text += "\n";
     text += WHY;
     for fill in FILLS {
         text += &fill_tables(results, fill);
     }
+    text += &grown::part(runs);
     text += &details(results, counts);
     text += &profile_part(profile);
     text
@@ -157,7 +161,7 @@ fn whole(number: f64) -> String {
 }
 
 /// Two digits after the point where they matter.
-fn short(number: f64) -> String {
+pub fn short(number: f64) -> String {
     if number < 20.0 {
         format!("{:.2}", number)
     } else {

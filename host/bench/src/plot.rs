@@ -2,7 +2,9 @@
 
 use crate::aims::{self, CHANGING_MOST, READING_MOST};
 use crate::cases::{NAMES, READING};
+use crate::growth::Runs;
 use crate::page::Result;
+use crate::scale;
 use crate::stores::{Fill, SIZES};
 use std::fmt::Write;
 
@@ -17,68 +19,75 @@ const COLOURS: [&str; 9] = [
 struct Field<'a> {
     title: &'a str,
     names: &'a [&'a str],
+    results: &'a [Result],
+    sizes: &'a [usize],
     left: f64,
     top: f64,
     ticks: Vec<f64>,
     aim: Option<f64>,
-    value: &'a dyn Fn(&Result) -> f64,
+    value: fn(&Result) -> f64,
 }
 
-pub fn plot(results: &[Result], machine: &str) -> String {
-    let (reading, changing) = NAMES.split_at(READING);
-    let ratio: &dyn Fn(&Result) -> f64 = &Result::ratio;
-    let per_slot: &dyn Fn(&Result) -> f64 = &Result::per_slot;
-    let fields = [
-        (
-            "reading calls: time over the reference's (dashed: the aim, at most 1)",
-            reading,
-            0.0,
-            0.0,
-            Some(READING_MOST),
-            ratio,
-        ),
-        (
-            "changing calls: time over the reference's (dashed: the aim, at most 0.8)",
-            changing,
-            1.0,
-            0.0,
-            Some(CHANGING_MOST),
-            ratio,
-        ),
-        ("reading calls: nanoseconds per slot", reading, 0.0, 1.0, None, per_slot),
-        ("changing calls: nanoseconds per slot", changing, 1.0, 1.0, None, per_slot),
-    ];
-    let mut svg = String::from(
-        "<svg xmlns=\"http://www.w3.org/2000/svg\" viewBox=\"0 0 1320 800\" width=\"1320\" height=\"800\" \
-         font-family=\"sans-serif\" font-size=\"13\">\n<rect width=\"1320\" height=\"800\" fill=\"white\"/>\n",
+/// The fields from the left to the right and down; those of larger pools if
+/// there was a run over them.
+pub fn plot(results: &[Result], runs: &Runs, machine: &str) -> String {
+    let larger = runs.results();
+    let mut fields = rows(results);
+    if !larger.is_empty() {
+        fields.extend(larger_row(&larger));
+    }
+    let height = 70 + 365 * fields.len() / 2;
+    let mut svg = format!(
+        "<svg xmlns=\"http://www.w3.org/2000/svg\" viewBox=\"0 0 1320 {height}\" width=\"1320\" height=\"{height}\" \
+         font-family=\"sans-serif\" font-size=\"13\">\n<rect width=\"1320\" height=\"{height}\" fill=\"white\"/>\n",
     );
     let head = "The proved library, one blob that fills the pool: lower is better";
     text(&mut svg, 60.0, 26.0, "start", &format!("font-size=\"17\">{}", head));
     text(&mut svg, 60.0, 46.0, "start", &format!("fill=\"#555\">{}", machine));
-    for (title, names, column, row, aim, value) in fields {
-        let (left, top) = (60.0 + 650.0 * column, 90.0 + 365.0 * row);
-        let ticks = ticks(results, names, aim, value);
-        draw(&mut svg, results, &Field { title, names, left, top, ticks, aim, value });
+    for (index, field) in fields.iter_mut().enumerate() {
+        field.left = 60.0 + 650.0 * (index % 2) as f64;
+        field.top = 90.0 + 365.0 * (index / 2) as f64;
+        field.ticks = field.powers();
+        draw(&mut svg, field);
     }
     svg + "</svg>\n"
 }
 
-/// Powers of two, from below the least value to above the greatest.
-fn ticks(
-    results: &[Result],
-    names: &[&str],
-    aim: Option<f64>,
-    value: &dyn Fn(&Result) -> f64,
-) -> Vec<f64> {
-    let full = |result: &&Result| result.fill == Fill::Full && names.contains(&result.name);
-    let mut values: Vec<f64> = results.iter().filter(full).map(value).collect();
-    values.extend(aim);
-    let least = values.iter().copied().fold(f64::MAX, f64::min).max(0.001).log2().floor() as i32;
-    let most = values.iter().copied().fold(0.0, f64::max).log2().ceil() as i32;
-    (least..=most.max(least + 1)).map(|power| 2f64.powi(power)).collect()
+fn rows(results: &[Result]) -> Vec<Field<'_>> {
+    let (reading, changing) = NAMES.split_at(READING);
+    let field = |title, names, aim, value| Field {
+        title,
+        names,
+        results,
+        sizes: &SIZES,
+        left: 0.0,
+        top: 0.0,
+        ticks: Vec::new(),
+        aim,
+        value,
+    };
+    let (ratio, per_slot): (fn(&Result) -> f64, fn(&Result) -> f64) =
+        (Result::ratio, Result::per_slot);
+    let least = "reading calls: time over the reference's (dashed: the aim, at most 1)";
+    let less = "changing calls: time over the reference's (dashed: the aim, at most 0.8)";
+    vec![
+        field(least, reading, Some(READING_MOST), ratio),
+        field(less, changing, Some(CHANGING_MOST), ratio),
+        field("reading calls: nanoseconds per slot", reading, None, per_slot),
+        field("changing calls: nanoseconds per slot", changing, None, per_slot),
+    ]
 }
 
-fn draw(svg: &mut String, results: &[Result], field: &Field) {
+/// Times per slot once more, of the same calls.
+fn larger_row(results: &[Result]) -> Vec<Field<'_>> {
+    let mut fields = rows(results).split_off(2);
+    fields[0].title = "reading calls in larger pools: nanoseconds per slot";
+    fields[1].title = "changing calls in larger pools: nanoseconds per slot";
+    fields.iter_mut().for_each(|field| field.sizes = &scale::SIZES);
+    fields
+}
+
+fn draw(svg: &mut String, field: &Field) {
     text(
         svg,
         field.left,
@@ -91,12 +100,12 @@ fn draw(svg: &mut String, results: &[Result], field: &Field) {
         line(svg, (field.left, y), (field.left + WIDTH, y), "stroke=\"#ddd\"");
         text(svg, field.left - 6.0, y + 4.0, "end", &format!(">{}", tick));
     }
-    for (index, slots) in SIZES.iter().enumerate() {
+    for (index, slots) in field.sizes.iter().enumerate() {
         let x = field.x(index);
         line(svg, (x, field.top), (x, field.top + HEIGHT), "stroke=\"#eee\"");
         text(svg, x, field.top + HEIGHT + 18.0, "middle", &format!(">{} slots", slots));
     }
-    let mut labels = field.curves(svg, results);
+    let mut labels = field.curves(svg);
     if let Some(aim) = field.aim {
         draw_aim(svg, field, aim);
     }
@@ -116,8 +125,20 @@ fn draw_aim(svg: &mut String, field: &Field, aim: f64) {
 }
 
 impl Field<'_> {
+    /// Powers of two, from below the least value to above the greatest.
+    fn powers(&self) -> Vec<f64> {
+        let drawn =
+            |result: &&Result| result.fill == Fill::Full && self.names.contains(&result.name);
+        let mut values: Vec<f64> = self.results.iter().filter(drawn).map(self.value).collect();
+        values.extend(self.aim);
+        let least = values.iter().copied().fold(f64::MAX, f64::min).max(0.001);
+        let most = values.iter().copied().fold(0.0, f64::max).log2().ceil() as i32;
+        let least = least.log2().floor() as i32;
+        (least..=most.max(least + 1)).map(|power| 2f64.powi(power)).collect()
+    }
+
     fn x(&self, index: usize) -> f64 {
-        self.left + 30.0 + (WIDTH - 60.0) * index as f64 / (SIZES.len() - 1) as f64
+        self.left + 30.0 + (WIDTH - 60.0) * index as f64 / (self.sizes.len() - 1) as f64
     }
 
     fn y(&self, value: f64) -> f64 {
@@ -127,15 +148,15 @@ impl Field<'_> {
     }
 
     /// Draws a curve for each call, and says how high each ends.
-    fn curves(&self, svg: &mut String, results: &[Result]) -> Vec<(f64, usize)> {
+    fn curves(&self, svg: &mut String) -> Vec<(f64, usize)> {
         let mut ends = Vec::new();
         for (index, name) in self.names.iter().enumerate() {
             let colour = COLOURS[index % COLOURS.len()];
             let mut points = String::new();
             let mut end = 0.0;
-            for (at, slots) in SIZES.iter().enumerate() {
+            for (at, slots) in self.sizes.iter().enumerate() {
                 let x = self.x(at);
-                end = self.y((self.value)(aims::find(results, name, Fill::Full, *slots)));
+                end = self.y((self.value)(aims::find(self.results, name, Fill::Full, *slots)));
                 let _ = write!(points, "{:.1},{:.1} ", x, end);
                 let _ = writeln!(
                     svg,

@@ -4,6 +4,9 @@ pub const BLOCK: usize = 64;
 pub const RECORD: usize = 12;
 pub const LEAF: usize = 48;
 const FAN_OUT: usize = 12;
+/// Where in a block its own slot's number stands, and its row of children.
+const OWN_SLOT: usize = 4;
+const ROW: usize = 16;
 
 /// The numbers of slots.
 pub const SIZES: [usize; 4] = [16, 64, 256, 1024];
@@ -75,6 +78,20 @@ impl Store {
         root
     }
 
+    /// The small blob in the first slots once more, in those after so many such
+    /// blobs, as calls would make it there.
+    fn repeat_first(&mut self, number: usize) {
+        let (size, shift) = (blocks(SMALL), (number * blocks(SMALL)) as u32);
+        self.pool.copy_within(..BLOCK * size, BLOCK * size * number);
+        self.records.copy_within(..RECORD * size, RECORD * size * number);
+        let blob = &mut self.pool[BLOCK * size * number..][..BLOCK * size];
+        // Each block's own number, and the two children in the root's row.
+        for at in [OWN_SLOT, ROW, ROW + 4, BLOCK + OWN_SLOT, 2 * BLOCK + OWN_SLOT] {
+            let slot = u32::from_le_bytes([blob[at], blob[at + 1], blob[at + 2], blob[at + 3]]);
+            blob[at..at + 4].copy_from_slice(&(slot + shift).to_le_bytes());
+        }
+    }
+
     /// Becomes the same as another of as many slots.
     pub fn refresh(&mut self, from: &Store) {
         self.pool.copy_from_slice(&from.pool);
@@ -86,13 +103,14 @@ impl Store {
 /// call names.
 pub fn store(fill: Fill, slots: usize, spare: usize) -> (Store, u64, usize) {
     let mut store = Store::wiped(slots);
-    let count = match fill {
-        Fill::Many => (slots - spare) / blocks(SMALL),
-        Fill::Full | Fill::Bare => 1,
-    };
     let length = fill.length(slots - spare);
-    let roots: Vec<u64> = (0..count).map(|_| store.add(length)).collect();
-    (store, roots[count / 2], length)
+    let first = store.add(length);
+    if fill != Fill::Many {
+        return (store, first, length);
+    }
+    let count = (slots - spare) / blocks(SMALL);
+    (1..count).for_each(|number| store.repeat_first(number));
+    (store, (count / 2 * blocks(SMALL)) as u64, length)
 }
 
 /// The longest blob that this many slots can hold, in whole leaves.
@@ -112,7 +130,40 @@ pub fn blocks(length: usize) -> usize {
     total
 }
 
+/// The height of the root of a blob of this length.
+pub fn height(length: usize) -> usize {
+    let mut row = (length + LEAF - 1) / LEAF;
+    let mut height = 0;
+    while row > 1 {
+        row = (row + FAN_OUT - 1) / FAN_OUT;
+        height += 1;
+    }
+    height
+}
+
 /// Bytes to write, none of them zero.
 pub fn data(length: usize, seed: u8) -> Vec<u8> {
     (0..length).map(|at| (at % 100) as u8 + seed).collect()
+}
+
+#[cfg(test)]
+mod tests {
+    use super::*;
+
+    /// Made by calls a pool full of small blobs takes too long if it is large.
+    #[test]
+    fn a_blob_that_is_repeated_is_as_calls_make_it() {
+        let (repeated, root, length) = store(Fill::Many, 64, 1);
+        let mut called = Store::wiped(64);
+        let roots: Vec<u64> = (0..21).map(|_| called.add(length)).collect();
+        assert!(repeated == called);
+        assert_eq!((root, length), (roots[10], 96));
+    }
+
+    #[test]
+    fn heights_are_least() {
+        let leaves = [1, 2, 12, 13, 144, 145, 1728, 1729, 20_736, 20_737, 60_072];
+        assert_eq!(leaves.map(|count| height(count * LEAF)), [0, 1, 1, 2, 2, 3, 3, 4, 4, 5, 5]);
+        assert_eq!((longest(65_536) / LEAF, blocks(longest(65_536))), (60_072, 65_535));
+    }
 }
