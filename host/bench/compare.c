@@ -15,6 +15,7 @@
 #define BATCH 32      /* the most calls in a sample */
 #define BATCHED 512   /* about how many slots the stores of a sample have together */
 #define FEWEST 5      /* slots that every case below has room in */
+#define LONG 1024     /* slots above which a call takes long */
 
 void old_tj_wipe(uint8_t *, size_t, uint8_t *, size_t, uint64_t *);
 void old_tj_create(uint8_t *, size_t, uint8_t *, size_t, uint64_t *);
@@ -220,10 +221,11 @@ static void agree(void (*call)(store *, int), const store *before, store *a, sto
     }
 }
 
-static double nanoseconds(void)
+/* By the processor's clock, which stands still while another program runs, where calls take so long that they are often interrupted. */
+static double nanoseconds(const store *s)
 {
     struct timespec t;
-    clock_gettime(CLOCK_MONOTONIC, &t);
+    clock_gettime(s->pool_length > TJ_BLOCK * LONG ? CLOCK_THREAD_CPUTIME_ID : CLOCK_MONOTONIC, &t);
     return (double)t.tv_sec * 1e9 + (double)t.tv_nsec;
 }
 
@@ -247,11 +249,11 @@ static double sample(void (*call)(store *, int), int now, const store *before, s
     for (i = 0; i < batch; i++) {
         refresh(&copies[i], before);
     }
-    start = nanoseconds();
+    start = nanoseconds(before);
     for (i = 0; i < batch; i++) {
         call(&copies[i], now);
     }
-    return (nanoseconds() - start) / batch;
+    return (nanoseconds(before) - start) / batch;
 }
 
 static int batch_of(size_t slots)

@@ -1,5 +1,5 @@
-# Rows of several runs of compare, each with the word ratio or floor before it, to one table: medians over the runs, with the least and the greatest.
-# The last lines name the greatest ratio and the floor farthest from 1.
+# Rows of several runs of compare, each with the word ratio or floor before it, to one table, a line for each call: medians over the runs, of ratios with
+# the least and the greatest. The last line names every ratio of a call beside itself that is above 1.05, and the floor farthest from 1.
 function insert(list, n, x,    i) {
     for (i = n; i > 0 && list[i] > x; i--) list[i + 1] = list[i]
     list[i + 1] = x
@@ -18,28 +18,41 @@ function spread(what, key, form,    list, n) {
 }
 function keep(what, key, x) { value[what, key, ++number[what, key]] = x + 0 }
 
+function cell(key) {
+    return sprintf("%.0f, %.0f; %s; %s", middle("before", key), middle("now", key), spread("ratio", key, "%.2f"), spread("floor", key, "%.2f"))
+}
+# What is seen farthest from 1, among calls that stand beside themselves.
+function watch(key,    off) {
+    if (!number["floor", key]) return
+    if (middle("ratio", key) > 1.05) above = above sprintf("%s%s %.3f", above ? ", " : "", name_of[key], middle("ratio", key))
+    if (middle("ratio", key) > most) { most = middle("ratio", key); at = name_of[key] }
+    off = middle("floor", key) - 1
+    if ((off < 0 ? -off : off) > (far < 0 ? -far : far)) { far = off; where = name_of[key] }
+}
+
+function thousands(n) { return n < 1000 ? n : sprintf("%d,%03d", n / 1000, n % 1000) }
+
 BEGIN { FS = " *[|] *" }
 $2 == "call" || $2 ~ /^-/ { next }
-{ key = $2 " | " $3 }
+{ key = $2 SUBSEP $3; name_of[key] = $2 " at " thousands($3) " slots" }
 $1 == "ratio" {
-    if (!number["ratio", key]) order[++rows] = key
+    if (!($2 in has_call)) { has_call[$2]; calls[++rows] = $2 }
+    if (!($3 in has_size)) { has_size[$3]; sizes[++columns] = $3 }
     keep("before", key, $4)
     keep("now", key, $5)
     keep("ratio", key, $6)
 }
 $1 == "floor" { keep("floor", key, $6) }
 END {
-    print "| call | slots | before, ns | now, ns | now over before | before over itself |\n|---|--:|--:|--:|--:|--:|"
+    head = "| call"
+    rule = "|---"
+    for (j = 1; j <= columns; j++) { head = head " | " thousands(sizes[j]) " slots"; rule = rule "|--:" }
+    print head " |\n" rule "|"
     for (i = 1; i <= rows; i++) {
-        key = order[i]
-        line = spread("before", key, "%.0f") " | " spread("now", key, "%.0f") " | " spread("ratio", key, "%.2f")
-        print "| " key " | " line " | " spread("floor", key, "%.2f") " |"
-        if (!number["floor", key]) continue
-        if (middle("ratio", key) > most) { most = middle("ratio", key); at = key }
-        off = middle("floor", key) - 1
-        if ((off < 0 ? -off : off) > (far < 0 ? -far : far)) { far = off; where = key }
+        line = "| " calls[i]
+        for (j = 1; j <= columns; j++) { key = calls[i] SUBSEP sizes[j]; line = line " | " cell(key); watch(key) }
+        print line " |"
     }
-    sub(/ [|] /, ", slots ", at)
-    sub(/ [|] /, ", slots ", where)
-    printf "\nGreatest ratio of a call to itself before: %.3f (%s). Floor farthest from 1: %.3f (%s).\n", most, at, 1 + far, where
+    printf "\nAbove 1.05 of its time before: %s. ", above ? above : sprintf("none; the greatest is %.3f, %s", most, at)
+    printf "Of the floors %.3f is farthest from 1, %s.\n", 1 + far, where
 }

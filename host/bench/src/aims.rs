@@ -101,7 +101,14 @@ fn ratio_line(
 fn over(sizes: &[usize], most: f64, number: impl Fn(usize) -> f64) -> Vec<String> {
     let numbers = sizes.iter().map(|slots| (*slots, number(*slots)));
     let above = numbers.filter(|(_, number)| *number > most);
-    above.map(|(slots, number)| format!("{:.2} at {}", number, thousands(slots as u64))).collect()
+    let told =
+        |(slots, number)| format!("{} at {}", above_by(number, most), thousands(slots as u64));
+    above.map(told).collect()
+}
+
+/// With as many digits as it takes to see that it is above.
+fn above_by(number: f64, most: f64) -> String {
+    format!("{:.*}", if number < most + 0.01 { 4 } else { 2 }, number)
 }
 
 fn copies_line(results: &[Result], sizes: &[usize]) -> String {

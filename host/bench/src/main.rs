@@ -11,6 +11,7 @@
 
 mod aims;
 mod cases;
+mod clock;
 mod counts;
 mod grown;
 mod growth;

@@ -1,8 +1,8 @@
 //! Times, in one run: library, reference and copy in turn, many times over.
 
 use crate::cases::{Call, Case};
+use crate::clock::Clock;
 use crate::stores::Store;
-use std::time::Instant;
 
 /// Nanoseconds of one call, medians.
 #[derive(Clone, Copy)]
@@ -24,6 +24,9 @@ const IN_A_ROW: usize = 10;
 /// One case with its copies of the store, and what was measured of it so far.
 pub struct Trial<'a> {
     case: &'a Case,
+    clock: Clock,
+    /// What two looks at it take, which is not counted.
+    empty: f64,
     stores: Vec<Store>,
     output: Vec<u8>,
     from: Vec<u8>,
@@ -36,12 +39,11 @@ pub struct Trial<'a> {
 
 /// Measures every case, `rounds` times over the whole list.
 pub fn measure(cases: &[Case], rounds: usize) -> Vec<Times> {
-    let empty = clock();
-    let mut trials: Vec<Trial> = cases.iter().map(Trial::new).collect();
+    let mut trials: Vec<Trial> = cases.iter().map(|case| Trial::new(case, Clock::Wall)).collect();
     for round in 0..rounds {
         for trial in &mut trials {
             trial.move_on(round);
-            deeper(round % 16, &mut || trial.round(round, empty));
+            deeper(round % 16, &mut || trial.take(IN_A_ROW, round, true));
         }
         eprint!("\rround {} of {}", round + 1, rounds);
     }
@@ -59,17 +61,6 @@ pub fn deeper(levels: usize, work: &mut dyn FnMut()) {
     }
 }
 
-/// What two looks at the clock with nothing between them take, median.
-pub fn clock() -> f64 {
-    let mut samples: Vec<f64> = (0..10_001)
-        .map(|_| {
-            let start = Instant::now();
-            start.elapsed().as_nanos() as f64
-        })
-        .collect();
-    median(&mut samples)
-}
-
 /// The value in the middle, if there is any.
 pub fn median(samples: &mut [f64]) -> f64 {
     samples.sort_by(|a, b| a.total_cmp(b));
@@ -77,11 +68,13 @@ pub fn median(samples: &mut [f64]) -> f64 {
 }
 
 impl Trial<'_> {
-    pub fn new(case: &Case) -> Trial<'_> {
+    pub fn new(case: &Case, clock: Clock) -> Trial<'_> {
         let size = case.before.pool.len() + case.before.records.len();
         let batch = (BATCH_BYTES / size).max(1);
         Trial {
             case,
+            clock,
+            empty: clock.empty(),
             stores: vec![case.before.clone(); batch],
             output: vec![0; case.output],
             from: vec![7; case.touched],
@@ -102,14 +95,10 @@ impl Trial<'_> {
         self.before = before;
     }
 
-    /// Some samples of each kind in turn, after one that is not counted. Library
-    /// and reference change places from round to round.
-    fn round(&mut self, round: usize, empty: f64) {
-        self.take(IN_A_ROW, round, empty, true);
-    }
-
-    /// So many samples of each kind, or of each but the reference.
-    pub fn take(&mut self, samples: usize, round: usize, empty: f64, with_reference: bool) {
+    /// So many samples of each kind in turn, or of each but the reference, after
+    /// one that is not counted. Library and reference change places from round to
+    /// round.
+    pub fn take(&mut self, samples: usize, round: usize, with_reference: bool) {
         let case = self.case;
         for sample in 0..=samples {
             let mut kinds = [0, 1, 2, 3];
@@ -124,7 +113,7 @@ impl Trial<'_> {
                     _ => self.copy(case.pool_bytes),
                 };
                 if sample > 0 {
-                    let one = (nanoseconds - empty).max(0.0) / self.stores.len() as f64;
+                    let one = (nanoseconds - self.empty).max(0.0) / self.stores.len() as f64;
                     self.samples[kind].push(one);
                 }
             }
@@ -136,20 +125,20 @@ impl Trial<'_> {
         for store in &mut self.stores {
             store.refresh(&self.case.before);
         }
-        let start = Instant::now();
-        for store in &mut self.stores {
-            self.sum = self.sum.wrapping_add(call(store, &mut self.output));
-        }
-        start.elapsed().as_nanos() as f64
+        self.clock.time(|| {
+            for store in &mut self.stores {
+                self.sum = self.sum.wrapping_add(call(store, &mut self.output));
+            }
+        })
     }
 
     /// A plain copy of so many bytes, as often as there are stores.
     fn copy(&mut self, bytes: usize) -> f64 {
-        let start = Instant::now();
-        for _ in 0..self.stores.len() {
-            plain_copy(&mut self.to[..bytes], &self.from[..bytes]);
-        }
-        let time = start.elapsed().as_nanos() as f64;
+        let time = self.clock.time(|| {
+            for _ in 0..self.stores.len() {
+                plain_copy(&mut self.to[..bytes], &self.from[..bytes]);
+            }
+        });
         self.sum = self.sum.wrapping_add(u64::from(self.to[bytes / 2]));
         time
     }

@@ -49,6 +49,10 @@ const HEAD: &str = include_str!("../notes/head.md");
 /// Why an aim is not met, and what would help.
 const WHY: &str = include_str!("../notes/why.md");
 
+/// The table of the library beside the one of before, which host/benchmark writes
+/// if it is handed that one.
+const COMPARED: &str = include_str!("../notes/compared.md");
+
 pub fn page(
     results: &[Result],
     machine: &str,
@@ -64,6 +68,7 @@ pub fn page(
     text += &aims::lines(results, runs);
     text += "\n";
     text += WHY;
+    text += COMPARED;
     for fill in FILLS {
         text += &fill_tables(results, fill);
     }

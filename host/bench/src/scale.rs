@@ -2,9 +2,9 @@
 //! several, each a process of its own, and keeps what each prints.
 
 use crate::cases::{self, Case, NAMES, OPEN, READING};
-use crate::measure::{self, clock, median, plain_copy, Times, Trial};
+use crate::clock::Clock;
+use crate::measure::{self, median, plain_copy, Times, Trial};
 use crate::stores::{height, store, Fill, Store, BLOCK, FILLS, LEAF};
-use std::time::Instant;
 
 /// The numbers of slots.
 pub const SIZES: [usize; 4] = [64, 1024, 8192, 65536];
@@ -40,12 +40,11 @@ pub fn cases() -> impl Iterator<Item = (Fill, usize, &'static str)> {
 /// slots, and nanoseconds of library, reference and the two copies. The reference
 /// is measured beside reading calls only.
 pub fn run(number: usize) {
-    let empty = clock();
     for (fill, slots, name) in cases() {
         let samples = (SAMPLED_SLOTS / slots).clamp(1, MOST_SAMPLES);
         let times = match name {
-            NEXT => asking(fill, slots, samples, empty),
-            _ => calling(&cases::case(name, fill, slots), number, samples, empty),
+            NEXT => asking(fill, slots, samples),
+            _ => calling(&cases::case(name, fill, slots), number, samples),
         };
         let Times { proved, reference, copy, copy_pool } = times;
         let numbers = [proved, reference, copy, copy_pool].map(|number| number.to_string());
@@ -53,10 +52,12 @@ pub fn run(number: usize) {
     }
 }
 
-fn calling(case: &Case, number: usize, samples: usize, empty: f64) -> Times {
-    let mut trial = Trial::new(case);
+/// By the processor's clock where calls take long.
+fn calling(case: &Case, number: usize, samples: usize) -> Times {
+    let clock = if case.slots < SIZES[2] { Clock::Wall } else { Clock::Processor };
+    let mut trial = Trial::new(case, clock);
     trial.move_on(number);
-    measure::deeper(number % 16, &mut || trial.take(samples, number, empty, !case.changes));
+    measure::deeper(number % 16, &mut || trial.take(samples, number, !case.changes));
     trial.times()
 }
 
@@ -78,7 +79,7 @@ fn heads(store: &Store, root: u64, leaves: usize) -> Heads<'_> {
 }
 
 /// Each head is asked for a leaf.
-fn asking(fill: Fill, slots: usize, samples: usize, empty: f64) -> Times {
+fn asking(fill: Fill, slots: usize, samples: usize) -> Times {
     let (store, root, length) = store(fill, slots, 0);
     let (heads, others) = heads(&store, root, length / LEAF);
     let mut ask = |head: &tjornsaki::Head, out: &mut [u8]| {
@@ -91,6 +92,7 @@ fn asking(fill: Fill, slots: usize, samples: usize, empty: f64) -> Times {
     let touched = BLOCK * (1 + height(length)) + LEAF;
     let (from, mut to, mut out) = (vec![7; touched], vec![0; touched], [0; LEAF]);
     let mut taken = [Vec::new(), Vec::new(), Vec::new()];
+    let empty = Clock::Wall.empty();
     for _ in 0..samples {
         taken[0].push(timed(&heads, empty, |head| ask(head, &mut out)));
         taken[1].push(timed(&others, empty, |head| ask_other(head, &mut out)));
@@ -109,7 +111,6 @@ fn pieces<T>(heads: &[T], ask: &mut impl FnMut(&T, &mut [u8])) -> Vec<u8> {
 
 /// Nanoseconds of one asking, of as many as there are heads.
 fn timed<T>(heads: &[T], empty: f64, mut ask: impl FnMut(&T)) -> f64 {
-    let start = Instant::now();
-    heads.iter().for_each(&mut ask);
-    (start.elapsed().as_nanos() as f64 - empty).max(0.0) / heads.len() as f64
+    let time = Clock::Wall.time(|| heads.iter().for_each(&mut ask));
+    (time - empty).max(0.0) / heads.len() as f64
 }
