@@ -1,13 +1,17 @@
--- What an edition owes is met by document 01's numbers. It is met too by numbers with a larger payload, more children and room after the payload,
--- so laws that ask for no more than `Proper` rest on nothing that only the first edition has.
-use mathlib.Core.Path.{refl}
-use mathlib.Core.List.{[], _∷_}
-use Prim.Native.Nat.{ℕ, zero, suc, _%_, _<_}
+-- What an edition owes is met by document 01's numbers, and what refusal 1 says in them. It is met too by numbers with a larger payload, more children and
+-- room after the payload, so laws that ask for no more than `Proper` rest on nothing that only the first edition has.
+use mathlib.Core.Path.{_≡_, refl}
+use mathlib.Core.Bool.{true, false}
+use mathlib.Core.List.{List, [], _∷_}
+use Prim.Native.Nat.{ℕ, zero, suc, _*_, _/_, _%_, _≤_, _<_}
 use native.Mathlib.Nat.{mod-lt}
 use native.Mathlib.Omega.{arith}
-use lib.ListN.{getD}
+use borrow.Author.Tests.{eq-eqb, le-leb, lt-leb}
+use lib.ListN.{length, getD}
+use Rattle.meaning.specs.Lists.{both}
 use Rattle.meaning.specs.declared.Edition.{Edition}
 use Rattle.meaning.specs.Edition.{one, Proper}
+use Rattle.meaning.specs.Calls.{slotsIn, sized}
 
 -- a place within its payload, and within its row
 pub within-below : (e : Edition) → Proper e → (place : ℕ) → place % e .leaf < e .leaf
@@ -37,6 +41,31 @@ one-proper =
     below zero = omega arith
     below (suc zero) = omega arith
     below (suc (suc i)) = omega arith
+
+-- Refusal 1 in edition one's numbers: up to 65,536 slots of 64 and 12 bytes are good, and more slots are too many.
+pub lengths-good : (P R : List ℕ) (n : ℕ) → 1 ≤ n → n ≤ 65536 → length P ≡ 64 * n → length R ≡ 12 * n → sized one P R ≡ true
+unfolding one sized slotsIn both
+lengths-good P R n some few lp lr =
+    let m : length P % 64 ≡ 0 = omega (arith, lp) in
+    let d : length P / 64 ≡ n = omega (arith, lp) in
+    rw d (simp (eq-eqb (length P % 64) 0 m, le-leb 1 n some, le-leb n 65536 few, eq-eqb (length R) (12 * n) lr))
+
+pub too-long : (P R : List ℕ) (n : ℕ) → 65536 < n → length P ≡ 64 * n → sized one P R ≡ false
+unfolding one sized slotsIn both
+too-long P R n many lp =
+    let m : length P % 64 ≡ 0 = omega (arith, lp) in
+    let d : length P / 64 ≡ n = omega (arith, lp) in
+    rw d (simp (eq-eqb (length P % 64) 0 m, le-leb 1 n (omega (arith, many)), lt-leb n 65536 many))
+
+-- the first pool that was too long before W-203, the longest pool, and the first of whole blocks that is too long
+lengths-1025 : (P R : List ℕ) → length P ≡ 65600 → length R ≡ 12300 → sized one P R ≡ true
+lengths-1025 P R lp lr = lengths-good P R 1025 (omega arith) (omega arith) lp lr
+
+lengths-65536 : (P R : List ℕ) → length P ≡ 4194304 → length R ≡ 786432 → sized one P R ≡ true
+lengths-65536 P R lp lr = lengths-good P R 65536 (omega arith) (omega arith) lp lr
+
+lengths-65537 : (P R : List ℕ) → length P ≡ 4194368 → sized one P R ≡ false
+lengths-65537 P R lp = too-long P R 65537 (omega arith) lp
 
 -- blocks of 128 bytes, 80 of them payload, 65,536 slots
 larger : Edition

@@ -315,6 +315,20 @@ heads =
     ∷ asked (empty 1) (headAt 0 5 3) (2 ∷ []) ([] ∷ [])
     ∷ []
 
-pub cases-hold : all right (joined (cases ∷ worked ∷ refusals ∷ links ∷ worn ∷ heads ∷ [])) ≡ true
-unfolding cases worked twelve refusals links worn heads tall rolledBack opened-on samePieces headOf openHead blockAt childAt below heightAt byteAt piece handed handedOut moved pieces blockIn lineIn holding full twice sharing versions right played sameSaid true-of holds empty two beside one pick both part pasted joined range filter all ofLast mapLast only sameList zeros number bytes padded fours sameCell itemBytes header blockBytes encoded block heightOf countOf ownSlot versionOf dataOf childrenOf recordWith recordOf recordAt stateOf recordedOf state recorded soundRecord lastVersion usableSlot slotOf atSlot content leaves cells rootOf contentOf leavesOf cellsOf slotsOf lengthOf held up leavesFor totalWithin total leastCount mostCount refusalOf at nowhere must first flaw used formed blockCheck isRoot linkCheck andThen passing isEmpty oneVisit visitRow visit fromRoot roots closingCheck closing poolCheck put puts changedBy freed renewed changed changes lowest chain onLast roomy hang raised addLeaf addLeaves lastLeaf share shares lastBytes longer keepRow keep lower shorter resized refuseIf afterCheck slotsIn sized refuseBadRecord opened withBlob usable rooted changing refuseWorn refuseFull become createOn createIn newBlocks resizeOn resizeIn createCall resizeCall after freeRecords wiped says createdSaid createAnswer auditSaid auditAnswer changedSaid changeAnswer lengthSaid lengthAnswer saidWith finishedSaid finishAnswer readOut perform reading blobCheck lengthOn lengthIn refusePast readOn readIn live auditOn auditIn writeOn writeIn lengthCall readCall auditCall writeCall along refill refilled slotNumber
+-- Bigger pools (request W-203).
+unfoldable pub bigger : List Case
+bigger =
+    -- 1,728, 1,729, 20,736, 20,737 leaves, the last and the first of heights 3, 4, 4 and 5; 60,072 and 60,073, the most in 65,536 slots and one more
+    blocks 82944 1885 ∷ blocks 82945 1890
+    ∷ blocks 995328 22621 ∷ blocks 995329 22627
+    ∷ blocks 2883456 65535 ∷ blocks 2883457 65537
+    -- a root of height 5 passes check 3, and its first child is no block of height 4; a root of height 6 does not pass
+    ∷ refusal (holding (inner 0 2 1 5 (1 ∷ 1 ∷ []) ∷ leaf 1 1 1 full ∷ [])) (tellLength 0) 8 (Slot 1)
+    ∷ refusal (holding (inner 0 2 1 6 (1 ∷ 1 ∷ []) ∷ leaf 1 1 1 full ∷ [])) (tellLength 0) 8 (Slot 0)
+    -- a slot number above 65,535
+    ∷ refusal (holding (inner 0 2 1 1 (1 ∷ 65536 ∷ []) ∷ leaf 1 1 1 full ∷ [])) (tellLength 0) 8 (Slot 0)
+    ∷ []
+
+pub cases-hold : all right (joined (cases ∷ worked ∷ refusals ∷ links ∷ worn ∷ heads ∷ bigger ∷ [])) ≡ true
+unfolding cases worked bigger twelve refusals links worn heads tall rolledBack opened-on samePieces headOf openHead blockAt childAt below heightAt byteAt piece handed handedOut moved pieces blockIn lineIn holding full twice sharing versions right played sameSaid true-of holds empty two beside one pick both part pasted joined range filter all ofLast mapLast only sameList zeros number bytes padded fours sameCell itemBytes header blockBytes encoded block heightOf countOf ownSlot versionOf dataOf childrenOf recordWith recordOf recordAt stateOf recordedOf state recorded soundRecord lastVersion usableSlot slotOf atSlot content leaves cells rootOf contentOf leavesOf cellsOf slotsOf lengthOf held up leavesFor totalWithin total leastCount mostCount refusalOf at nowhere must first flaw used formed blockCheck isRoot linkCheck andThen passing isEmpty oneVisit visitRow visit fromRoot roots closingCheck closing poolCheck put puts changedBy freed renewed changed changes lowest chain onLast roomy hang raised addLeaf addLeaves lastLeaf share shares lastBytes longer keepRow keep lower shorter resized refuseIf afterCheck slotsIn sized refuseBadRecord opened withBlob usable rooted changing refuseWorn refuseFull become createOn createIn newBlocks resizeOn resizeIn createCall resizeCall after freeRecords wiped says createdSaid createAnswer auditSaid auditAnswer changedSaid changeAnswer lengthSaid lengthAnswer saidWith finishedSaid finishAnswer readOut perform reading blobCheck lengthOn lengthIn refusePast readOn readIn live auditOn auditIn writeOn writeIn lengthCall readCall auditCall writeCall along refill refilled slotNumber
 cases-hold = refl

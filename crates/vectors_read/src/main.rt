@@ -9,7 +9,7 @@ fn main() {
     play(&buffer[..n]);
 }
 
-// Room for one slot more than a pool may have.
+// Programs keep to 1,024 slots (W-203): room for those and for one more, the pool of 65,600 bytes.
 fn play(text: &[u8]) {
     let mut pool = [0u8; 65600];
     let mut records = [0u8; 12300];
