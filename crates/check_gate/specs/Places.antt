@@ -1,7 +1,7 @@
 -- What a call is lent before refusal 1 is known: rows with a place for each slot that the pool has.
 use mathlib.Core.Path.{_≡_}
 use mathlib.Core.List.{List}
-use Prim.Native.Nat.{ℕ, _+_, _≤_}
+use Prim.Native.Nat.{ℕ, _≤_}
 use lib.ListN.{length, replicate}
 use Rattle.meaning.specs.Calls.{slotsIn}
 use Rattle.meaning.specs.declared.Edition.{Edition}
