@@ -32,10 +32,17 @@ fn far_below(e: Edition, pool: &[u8], d: usize, root: usize, j: usize) -> usize
     child_at(e, pool, parent, j % e.fan)
 }
 
-// The descent by position: the slot of the j-th block that lies d heights below the root. Up to two heights, the farthest that the parent of a row of
-// leaves lies below a root in edition one, are taken here and not by `far_below`, which calls itself: here the compiler knows the edition's numbers,
-// and divides by none.
-pub fn slot_below(e: Edition, pool: &[u8], d: usize, root: usize, j: usize) -> usize
+// Two heights at once: the slot of the j-th block that lies two heights below a block.
+fn two_below(e: Edition, pool: &[u8], s: usize, j: usize) -> usize
+    requires { ⌜ Proper e ⌝ }
+    ensures { λ r. ⌜ r ≡ below e (now (pool .entry)) 2 s j ⌝ }
+{
+    let upper = child_at(e, pool, s, j / e.fan % e.fan);
+    child_at(e, pool, upper, j % e.fan)
+}
+
+// The descent above the last two heights: up to two are taken here, and more by `far_below`.
+fn near_below(e: Edition, pool: &[u8], d: usize, root: usize, j: usize) -> usize
     requires { ⌜ Proper e ⌝ }
     ensures { λ r. ⌜ r ≡ below e (now (pool .entry)) d root j ⌝ }
 {
@@ -46,10 +53,26 @@ pub fn slot_below(e: Edition, pool: &[u8], d: usize, root: usize, j: usize) -> u
         return child_at(e, pool, root, j % e.fan);
     }
     if d == 2 {
-        let parent = child_at(e, pool, root, j / e.fan % e.fan);
-        return child_at(e, pool, parent, j % e.fan);
+        return two_below(e, pool, root, j);
     }
     far_below(e, pool, d, root, j)
+}
+
+// The descent by position: the slot of the j-th block that lies d heights below the root. Up to four heights, the farthest that the parent of a row of
+// leaves lies below a root in edition one, are taken without `far_below`, which calls itself: the last two here and those above by `near_below`. As that
+// has no other caller, the compiler puts both in place, knows the edition's numbers there, and divides by none.
+pub fn slot_below(e: Edition, pool: &[u8], d: usize, root: usize, j: usize) -> usize
+    requires { ⌜ Proper e ⌝ }
+    ensures { λ r. ⌜ r ≡ below e (now (pool .entry)) d root j ⌝ }
+{
+    if d == 0 {
+        return root;
+    }
+    if d == 1 {
+        return child_at(e, pool, root, j % e.fan);
+    }
+    let at = near_below(e, pool, d - 2, root, j / e.fan / e.fan);
+    two_below(e, pool, at, j)
 }
 
 // A root's height, at most the edition's.

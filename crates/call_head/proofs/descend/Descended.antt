@@ -65,11 +65,20 @@ module _ (e : Edition) (P : List ℕ) (d r j : ℕ) where
       let k : d ≡ suc (d - 1) = omega arith in
       rw k (ex ∙ rw eq)
 
-  -- one height and two, at once
   pub one-below : d ≡ 1 → (x : ℕ) → x ≡ childAt e P r (j % e .fan) → x ≡ below e P d r j
   unfolding below
   one-below o x ex = ex ∙ rw o
 
-  pub two-below : d ≡ 2 → (q : ℕ) → q ≡ childAt e P r (j / e .fan % e .fan) → (x : ℕ) → x ≡ childAt e P q (j % e .fan) → x ≡ below e P d r j
+  -- two heights at once: from a block, as all there are, and as the last two
+  pub two-below : (q : ℕ) → q ≡ childAt e P r (j / e .fan % e .fan) → (x : ℕ) → x ≡ childAt e P q (j % e .fan) → x ≡ below e P 2 r j
   unfolding below
-  two-below o q eq x ex = ex ∙ rw (o, eq)
+  two-below q eq x ex = ex ∙ rw eq
+
+  pub two-only : d ≡ 2 → (x : ℕ) → x ≡ below e P 2 r j → x ≡ below e P d r j
+  two-only o x ex = ex ∙ rw o
+
+  pub two-lower : (d ≡ 0 → ⊥) → (d ≡ 1 → ⊥) → (q : ℕ) → q ≡ below e P (d - 2) r (j / e .fan / e .fan) → (x : ℕ) → x ≡ below e P 2 q j → x ≡ below e P d r j
+  unfolding below
+  two-lower n m q eq x ex =
+      let k : d ≡ suc (suc (d - 2)) = omega arith in
+      rw k (ex ∙ rw eq)

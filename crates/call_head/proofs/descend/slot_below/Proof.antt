@@ -1,6 +1,6 @@
--- `call_head::descend::slot_below` meets its contract: one height and two are `below` unfolded once and twice; deeper is `far_below`, which has the same contract.
+-- `call_head::descend::slot_below` meets its contract: the last two heights are `below` unfolded twice, and those above are `near_below`, which has the same contract.
 use Rattle.laws.proofs.Editions.{digit-below}
-use Rattle.call_head.proofs.descend.Descended.{at-root, one-below, two-below}
+use Rattle.call_head.proofs.descend.Descended.{at-root, one-below, two-lower}
 use borrow.Author.Needs.{needs}
 use Rattle.call_head.proofs.descend.slot_below.Statement.{statement}
 use Rattle.call_head.proofs.descend.slot_below.Tie as tie
@@ -17,29 +17,23 @@ child-at-requires c κs = (search needs, search digit-below)
 returns-2 : tie.Need-returns-2
 returns-2 c = search one-below
 
-div-child-at : tie.Need-div-child-at
-div-child-at c = search needs
+sub-near-below : tie.Need-sub-near-below
+sub-near-below c = search needs
 
-rem-child-at-2 : tie.Need-rem-child-at-2
-rem-child-at-2 c = search needs
+div-near-below : tie.Need-div-near-below
+div-near-below c = search needs
 
-child-at-requires-2 : tie.Need-child-at-requires-2
-child-at-requires-2 c κs = (search needs, search digit-below)
+div-near-below-2 : tie.Need-div-near-below-2
+div-near-below-2 c = search needs
 
-rem-child-at-3 : tie.Need-rem-child-at-3
-rem-child-at-3 c = search needs
+near-below-requires : tie.Need-near-below-requires
+near-below-requires c κs = search needs
 
-child-at-requires-3 : tie.Need-child-at-requires-3
-child-at-requires-3 c κs = (search needs, search digit-below)
+two-below-requires : tie.Need-two-below-requires
+two-below-requires c κs = search needs
 
 returns-3 : tie.Need-returns-3
-returns-3 c = search two-below
-
-far-below-requires : tie.Need-far-below-requires
-far-below-requires c κs = search needs
-
-returns-4 : tie.Need-returns-4
-returns-4 c = search needs
+returns-3 c = search two-lower
 
 pub slot-below-spec : {M : Type 1} → statement M
 slot-below-spec =
@@ -49,11 +43,9 @@ slot-below-spec =
     rem-child-at
     child-at-requires
     returns-2
-    div-child-at
-    rem-child-at-2
-    child-at-requires-2
-    rem-child-at-3
-    child-at-requires-3
-    returns-3
-    far-below-requires
-    returns-4)
+    sub-near-below
+    div-near-below
+    div-near-below-2
+    near-below-requires
+    two-below-requires
+    returns-3)
