@@ -17,24 +17,19 @@ pub fn locate(fan: usize, h: usize, p: usize) -> Seat
     ensures { λ r. ⌜ Sits r (locate fan h p) ⌝ }
     ensures { λ r. ⌜ (r .first ≤ p) × (r .height ≤ h) ⌝ }
 {
-    if h == 0 {
-        return Seat {
-            height: 0,
-            first: 0,
-        };
+    let mut height = h;
+    let mut left = p;
+    let mut first = 0;
+    while height != 0 {
+        if left == 0 {
+            return Seat { height, first };
+        }
+        height -= 1;
+        let size = subtrees::bulk(fan, height);
+        first += (left - 1) / size * subtrees::power(fan, height);
+        left = (left - 1) % size;
     }
-    if p == 0 {
-        return Seat {
-            height: h,
-            first: 0,
-        };
-    }
-    let size = subtrees::bulk(fan, h - 1);
-    let s = locate(fan, h - 1, (p - 1) % size);
-    Seat {
-        height: s.height,
-        first: (p - 1) / size * subtrees::power(fan, h - 1) + s.first,
-    }
+    Seat { height: 0, first }
 }
 
 // Of the p-th block of a row of new subtrees of height h, the first of which begins with the new leaf j.

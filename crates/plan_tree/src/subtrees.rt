@@ -19,10 +19,13 @@ pub fn bulk(fan: usize, h: usize) -> usize
     requires { ⌜ (2 ≤ fan) × (fan ^ h ≤ 2 ^ 50) ⌝ }
     ensures { λ r. ⌜ (r ≡ bulk fan h) × (r ≤ 2 ^ 51) ⌝ }
 {
-    if h == 0 {
-        return 1;
+    let mut r = 1;
+    let mut i = 0;
+    while i < h {
+        r = 1 + fan * r;
+        i += 1;
     }
-    1 + fan * bulk(fan, h - 1)
+    r
 }
 
 // The height that a full root has when the block with this number is made: blocks are numbered in the order of making, the old ones first.
@@ -31,10 +34,13 @@ pub fn level_of(fan: usize, h: usize, top: usize, number: usize) -> usize
     requires { ⌜ (bulk fan h ≤ number) × (number < bulk fan top) ⌝ }
     ensures { λ r. ⌜ (h ≤ r) × (r < top) × (bulk fan r ≤ number) × (number < bulk fan (suc r)) ⌝ }
 {
-    if number < bulk(fan, h + 1) {
-        return h;
+    let mut level = h;
+    let mut next = bulk(fan, h + 1);
+    while next <= number {
+        next = 1 + fan * next;
+        level += 1;
     }
-    level_of(fan, h + 1, top, number)
+    level
 }
 
 // Of m new leaves, how many children of height h those from j on need, in a block with c places left.

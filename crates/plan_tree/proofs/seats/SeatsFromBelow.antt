@@ -16,17 +16,6 @@ share-fits fan h p size w f some whole wide rest =
     let low : w ≤ size = omega (arith, bulk-leaves fan h some) in
     omega (arith, mul-le-mul-left (p / size) low, div-add-mod' p size)
 
--- where a block of a new subtree stands: a leaf, the top, or in a child
-pub sits-leaf : (fan h p : ℕ) → h ≡ 0 → Sits (record { height = 0; first = 0 }) (locate fan h p)
-sits-leaf fan h p is =
-    let e : locate fan h p ≡ (0, 0) = rw is (locate-leaf fan p) in
-    record { height = sym (ap (λ (l : ℕ × ℕ). l .0) e); first = sym (ap (λ (l : ℕ × ℕ). l .1) e) }
-
-pub sits-top : (fan h p : ℕ) → p ≡ 0 → Sits (record { height = h; first = 0 }) (locate fan h p)
-sits-top fan h p is =
-    let e : locate fan h p ≡ (h, 0) = rw is (locate-top fan h) in
-    record { height = sym (ap (λ (l : ℕ × ℕ). l .0) e); first = sym (ap (λ (l : ℕ × ℕ). l .1) e) }
-
 -- the definition's step down, from one height lower
 locate-back : (fan h p : ℕ) → (h ≡ 0 → ⊥) → (p ≡ 0 → ⊥) → locate fan h p ≡ (
   locate fan (h - 1) ((p - 1) % bulk fan (h - 1)) .0,
@@ -39,17 +28,45 @@ locate-back fan (suc h) (suc p) tall more =
     let z : suc p - 1 ≡ p = omega arith in
     rw (y, z) (locate-down fan h p)
 
--- so the seat in the child gives the seat in the subtree
-pub sits-down : (fan h p size w : ℕ) (s : Seat) → (h ≡ 0 → ⊥) → (p ≡ 0 → ⊥) → size ≡ bulk fan (h - 1) → w ≡ fan ^ (h - 1)
-    → Sits s (locate fan (h - 1) ((p - 1) % size))
-    → Sits (record { height = s .height; first = (p - 1) / size * w + s .first }) (locate fan h p)
-sits-down fan h p size w s tall more whole wide sits =
-    let e = locate-back fan h p tall more in
-    let at : Sits s (locate fan (h - 1) ((p - 1) % bulk fan (h - 1))) = rw whole at sits in
+-- on the way down to block p of a new subtree of height h: it is block left of a subtree of this height, before which lie first leaves
+pub record Nears (fan h p height left first : ℕ) : Type 0 where
+  pub low : height ≤ h
+  pub few : first + left ≤ p
+  pub level : locate fan h p .0 ≡ locate fan height left .0
+  pub before : locate fan h p .1 ≡ first + locate fan height left .1
+
+-- at first that is the whole subtree
+pub nears-start : (fan h p : ℕ) → Nears fan h p h p 0
+nears-start fan h p = record { low = omega arith; few = omega arith; level = refl; before = omega arith }
+
+-- then a child of the one before
+pub nears-down : (fan h p height left first size w : ℕ) → 2 ≤ fan → Nears fan h p height left first → (height ≡ 0 → ⊥) → (left ≡ 0 → ⊥)
+    → size ≡ bulk fan (height - 1) → w ≡ fan ^ (height - 1)
+    → Nears fan h p (height - 1) ((left - 1) % size) (first + (left - 1) / size * w)
+nears-down fan h p height left first size w two nears tall more whole wide =
+    let e = locate-back fan height left tall more in
+    let share = share-fits fan (height - 1) (left - 1) size w ((left - 1) % size) (omega arith) whole wide (omega arith) in
     record {
-      height = at .height ∙ sym (ap (λ (l : ℕ × ℕ). l .0) e);
-      first = rw (whole, wide, at .first) (sym (ap (λ (l : ℕ × ℕ). l .1) e));
+      low = omega (arith, nears .low);
+      few = omega (arith, nears .few, share);
+      level = rw whole (nears .level ∙ ap (λ (l : ℕ × ℕ). l .0) e);
+      before = rw (whole, wide) (omega (arith, nears .before, ap (λ (l : ℕ × ℕ). l .1) e));
     }
+
+-- in the end the block is the top of its subtree, or a leaf
+pub sits-top : (fan h p height left first : ℕ) → Nears fan h p height left first → left ≡ 0
+    → Sits (record { height = height; first = first }) (locate fan h p)
+sits-top fan h p height left first nears is =
+    let e : locate fan height left ≡ (height, 0) = rw is (locate-top fan height) in
+    let top : locate fan height left .1 ≡ 0 = ap (λ (l : ℕ × ℕ). l .1) e in
+    record { height = sym (nears .level ∙ ap (λ (l : ℕ × ℕ). l .0) e); first = omega (arith, nears .before, top) }
+
+pub sits-leaf : (fan h p height left first : ℕ) → Nears fan h p height left first → height ≡ 0
+    → Sits (record { height = 0; first = first }) (locate fan h p)
+sits-leaf fan h p height left first nears is =
+    let e : locate fan height left ≡ (0, 0) = rw is (locate-leaf fan left) in
+    let leaf : locate fan height left .1 ≡ 0 = ap (λ (l : ℕ × ℕ). l .1) e in
+    record { height = sym (nears .level ∙ ap (λ (l : ℕ × ℕ). l .0) e); first = omega (arith, nears .before, leaf) }
 
 -- and of a row of them
 pub sits-row : (fan h j p size w : ℕ) (s : Seat) → size ≡ bulk fan h → w ≡ fan ^ h → Sits s (locate fan h (p % size))

@@ -53,6 +53,20 @@ unfolding bulk
 bulk-twice fan zero two = omega (arith, pow-zero fan)
 bulk-twice fan (suc h) two = omega (arith, pow-succ' fan h, mul-le-mul-left fan (bulk-twice fan h two))
 
+-- one higher, from its blocks
+pub bulk-next : (fan i b : ℕ) → b ≡ bulk fan i → 1 + fan * b ≡ bulk fan (i + 1)
+bulk-next fan i b whole =
+    let z : i + 1 - 1 ≡ i = omega arith in
+    bulk-back fan (i + 1) b (λ none. omega arith) (rw z whole)
+
+-- if the leaves at height h are few, so are the blocks up to that height
+pub bulk-few : (fan i h b : ℕ) → 2 ≤ fan → fan ^ h ≤ 2 ^ 50 → i ≤ h → b ≡ bulk fan i → b < 2 ^ 51
+bulk-few fan i h b two small low whole = omega (arith, pow-rises fan i h (omega arith) low, bulk-twice fan i two)
+
+pub next-few : (fan i h b : ℕ) → 2 ≤ fan → fan ^ h ≤ 2 ^ 50 → i < h → b ≡ bulk fan i → 1 + fan * b < 2 ^ 51
+next-few fan i h b two small low whole =
+    bulk-few fan (i + 1) h (1 + fan * b) two small (omega arith) (bulk-next fan i b whole)
+
 -- and a block or more
 pub bulk-some : (fan h b : ℕ) → 1 ≤ fan → b ≡ bulk fan h → 1 ≤ b
 bulk-some fan h b some whole = omega (arith, bulk-leaves fan h some, pow-some fan h some)
