@@ -17,10 +17,13 @@ pub fn room(fan: usize, h: usize, n: usize) -> usize
     requires { ⌜ (2 ≤ fan) × (fan ^ h ≤ 2 ^ 50) × (1 ≤ n) ⌝ }
     ensures { λ r. ⌜ (r ≡ room fan h n) × (r ≤ fan ^ h) ⌝ }
 {
-    if h == 0 {
-        return 0;
+    let mut r = 0;
+    let mut i = 0;
+    while i < h {
+        r += (fan - last_children(fan, i, n)) * subtrees::power(fan, i);
+        i += 1;
     }
-    room(fan, h - 1, n) + (fan - last_children(fan, h - 1, n)) * subtrees::power(fan, h - 1)
+    r
 }
 
 // The blocks that those leaves need.
@@ -28,8 +31,11 @@ pub fn space(fan: usize, h: usize, n: usize) -> usize
     requires { ⌜ (2 ≤ fan) × (fan ^ h ≤ 2 ^ 50) × (1 ≤ n) ⌝ }
     ensures { λ r. ⌜ (r ≡ space fan h n) × (r ≤ 2 ^ 51) ⌝ }
 {
-    if h == 0 {
-        return 0;
+    let mut r = 0;
+    let mut i = 0;
+    while i < h {
+        r += (fan - last_children(fan, i, n)) * subtrees::bulk(fan, i);
+        i += 1;
     }
-    space(fan, h - 1, n) + (fan - last_children(fan, h - 1, n)) * subtrees::bulk(fan, h - 1)
+    r
 }

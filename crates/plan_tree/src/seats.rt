@@ -52,15 +52,16 @@ pub fn edge_seat(fan: usize, h: usize, n: usize, p: usize) -> Seat
     ensures { λ r. ⌜ Sits r (seat fan h n p) ⌝ }
     ensures { λ r. ⌜ (r .first ≤ fan ^ h + p) × (r .height ≤ h) ⌝ }
 {
-    if h == 0 {
-        return Seat {
-            height: 0,
-            first: 0,
-        };
+    let mut height = h;
+    while height != 0 {
+        height -= 1;
+        let below = edge::space(fan, height, n);
+        if below <= p {
+            return in_row(fan, height, edge::room(fan, height, n), p - below);
+        }
     }
-    let below = edge::space(fan, h - 1, n);
-    if p < below {
-        return edge_seat(fan, h - 1, n, p);
+    Seat {
+        height: 0,
+        first: 0,
     }
-    in_row(fan, h - 1, edge::room(fan, h - 1, n), p - below)
 }

@@ -76,26 +76,25 @@ sits-row fan h j p size w s whole wide sits =
     let at : Sits s (locate fan h (p % bulk fan h)) = rw whole at sits in
     record { height = at .height; first = rw (whole, wide, at .first) refl }
 
--- where a new block of the right edge stands: none, below, or beside the last child
-pub edge-none : (fan h n p : ℕ) → h ≡ 0 → Sits (record { height = 0; first = 0 }) (seat fan h n p)
+-- where a new block of the right edge stands, if it stands where one of height g does: nowhere, below the last child, or beside it
+pub edge-none : (fan h n p g : ℕ) → seat fan h n p ≡ seat fan g n p → g ≡ 0 → Sits (record { height = 0; first = 0 }) (seat fan h n p)
 unfolding seat
-edge-none fan h n p is = rw is (record { height = refl; first = refl })
+edge-none fan h n p g same is = rw (same, is) (record { height = refl; first = refl })
 
-pub edge-below : (fan h n p b : ℕ) (s : Seat) → (h ≡ 0 → ⊥) → b ≡ space fan (h - 1) n → p < b
-    → Sits s (seat fan (h - 1) n p) → Sits s (seat fan h n p)
-edge-below fan zero n p b s tall all less sits = absurd (tall refl)
-edge-below fan (suc h) n p b s tall all less sits =
-    let z : suc h - 1 ≡ h = omega arith in
-    let at : Sits s (seat fan h n p) = rw z at sits in
-    let few : p < space fan h n = rw (all, z) at less in
-    rw (seat-below fan h n p few) at
+pub edge-below : (fan h n p g b : ℕ) → seat fan h n p ≡ seat fan g n p → (g ≡ 0 → ⊥) → b ≡ space fan (g - 1) n → p < b
+    → seat fan h n p ≡ seat fan (g - 1) n p
+edge-below fan h n p zero b same tall all less = absurd (tall refl)
+edge-below fan h n p (suc g) b same tall all less =
+    let z : suc g - 1 ≡ g = omega arith in
+    let few : p < space fan g n = rw (all, z) at less in
+    rw z (same ∙ seat-below fan g n p few)
 
-pub edge-beside : (fan h n p b j : ℕ) (s : Seat) → (h ≡ 0 → ⊥) → b ≡ space fan (h - 1) n → b ≤ p → j ≡ room fan (h - 1) n
-    → Sits s (inRow fan (h - 1) j (p - b)) → Sits s (seat fan h n p)
-edge-beside fan zero n p b j s tall all more here sits = absurd (tall refl)
-edge-beside fan (suc h) n p b j s tall all more here sits =
-    let z : suc h - 1 ≡ h = omega arith in
-    let many : space fan (suc h - 1) n ≤ p = omega arith in
-    let at : Sits s (inRow fan (suc h - 1) (room fan (suc h - 1) n) (p - space fan (suc h - 1) n)) = rw (all, here) at sits in
-    let at′ : Sits s (inRow fan h (room fan h n) (p - space fan h n)) = rw z at at in
-    rw (seat-beside fan h n p (rw z at many)) at′
+pub edge-beside : (fan h n p g b j : ℕ) (s : Seat) → seat fan h n p ≡ seat fan g n p → (g ≡ 0 → ⊥) → b ≡ space fan (g - 1) n → b ≤ p
+    → j ≡ room fan (g - 1) n → Sits s (inRow fan (g - 1) j (p - b)) → Sits s (seat fan h n p)
+edge-beside fan h n p zero b j s same tall all more here sits = absurd (tall refl)
+edge-beside fan h n p (suc g) b j s same tall all more here sits =
+    let z : suc g - 1 ≡ g = omega arith in
+    let many : space fan (suc g - 1) n ≤ p = omega arith in
+    let at : Sits s (inRow fan (suc g - 1) (room fan (suc g - 1) n) (p - space fan (suc g - 1) n)) = rw (all, here) at sits in
+    let at′ : Sits s (inRow fan g (room fan g n) (p - space fan g n)) = rw z at at in
+    rw (same, seat-beside fan g n p (rw z at many)) at′
