@@ -1,4 +1,4 @@
--- What an edition owes is met by document 01's numbers, and what refusal 1 says in them. It is met too by numbers with a larger payload, more children and
+-- What an edition owes is met by edition one's numbers, and what refusal 1 says in them. It is met too by numbers with a larger payload, more children and
 -- room after the payload, so laws that ask for no more than `Proper` rest on nothing that only the first edition has.
 use mathlib.Core.Path.{_≡_, refl}
 use mathlib.Core.Bool.{true, false}

@@ -5,7 +5,7 @@ use Prim.Native.Nat.{ℕ, _+_, _*_, _^_, _≤_, _<_}
 use lib.ListN.{length, getD}
 use Rattle.meaning.specs.declared.Edition.{Edition}
 
--- edition one: document 01's numbers
+-- edition one: document 01's numbers, with the height and the slots of request W-203
 unfoldable pub one : Edition
 one = record { mark = 0x4c ∷ 0x31 ∷ []; size = 64; leaf = 48; fan = 12; top = 5; most = 65536 }
 

@@ -19,7 +19,7 @@ pub struct Edition {
     pub most: usize,
 }
 
-// Edition one: document 01's numbers.
+// Edition one: document 01's numbers, with the height and the slots of request W-203.
 pub fn edition_one() -> Edition
     ensures { λ r. ⌜ r ≡ one ⌝ }
 {

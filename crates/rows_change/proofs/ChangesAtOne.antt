@@ -51,7 +51,11 @@ module _ (e : Edition) (ee : e ≡ one) where
       unfolding changeCall
       write-one offset ex h = rw ex (subst (λ (y : Edition). Ends y changeAnswer (writeCall y P R r offset d) P R a P′ R′) ee h)
 
-      pub resize-one : (len : ℕ) → x ≡ Resize len → Ends e changeAnswer (resizeCall e P R r len) P R a P′ R′
+      pub resize-one : (len : ℕ) → x ≡ Resize len → Ends one changeAnswer (resizeCall one P R r len) P R a P′ R′
           → Ends one changeAnswer (changeCall one P R r x d) P R a P′ R′
       unfolding changeCall
-      resize-one len ex h = rw ex (subst (λ (y : Edition). Ends y changeAnswer (resizeCall y P R r len) P R a P′ R′) ee h)
+      resize-one len ex h = rw ex h
+
+    pub resize-here : (r len : ℕ) (a : Changed) (P′ R′ : List ℕ) → Ends e changeAnswer (resizeCall e P R r len) P R a P′ R′
+        → Ends one changeAnswer (resizeCall one P R r len) P R a P′ R′
+    resize-here r len a P′ R′ h = subst (λ (y : Edition). Ends y changeAnswer (resizeCall y P R r len) P R a P′ R′) ee h

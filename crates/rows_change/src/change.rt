@@ -2,7 +2,7 @@
 use meaning::Changed;
 ghost use Prim.Native.Nat.{_≤_};
 ghost use Rattle.meaning.specs.Edition.{one};
-ghost use Rattle.meaning.specs.Calls.{slotsIn};
+ghost use Rattle.meaning.specs.Calls.{slotsIn, resizeCall};
 ghost use Rattle.meaning.specs.Answers.{changeAnswer, Ends};
 ghost use Rattle.check_survey.specs.Reached.{Rows};
 ghost use Rattle.rows_change.specs.change.{changeCall};
@@ -17,7 +17,41 @@ pub enum Change {
     Resize(u64),
 }
 
-// In rows that are lent.
+// A resize in rows that are lent, with room for three drafts.
+fn resize_lent(
+    pool: &mut [u8],
+    records: &mut [u8],
+    seen: &mut [u8],
+    row: &mut [u32],
+    heights: &mut [u8],
+    firsts: &mut [u32],
+    root: u64,
+    len: u64,
+) -> Changed
+    requires { ⌜ Rows one (now pool) (now seen) (now row) (now heights) (now firsts) ⌝ }
+    ensures { λ r. ⌜ Ends one changeAnswer (resizeCall one (now (pool .entry)) (now (records .entry)) root len) (now (pool .entry)) (now (records .entry)) r (now (pool .exit)) (now (records .exit)) ⌝ }
+{
+    let e = meaning::edition_one();
+    let mut kept = [0u8; 64];
+    let mut payload = [0u8; 48];
+    let mut scratch = [0u8; 64];
+    call_resize::resize_call(
+        e,
+        pool,
+        records,
+        seen,
+        row,
+        heights,
+        firsts,
+        &mut kept,
+        &mut payload,
+        &mut scratch,
+        root,
+        len,
+    )
+}
+
+// A change in rows that are lent.
 fn in_lent(
     pool: &mut [u8],
     records: &mut [u8],
@@ -33,8 +67,6 @@ fn in_lent(
     ensures { λ r. ⌜ Ends one changeAnswer (changeCall one (now (pool .entry)) (now (records .entry)) root change (now (src .entry))) (now (pool .entry)) (now (records .entry)) r (now (pool .exit)) (now (records .exit)) ⌝ }
 {
     let e = meaning::edition_one();
-    let mut kept = [0u8; 64];
-    let mut payload = [0u8; 48];
     let mut scratch = [0u8; 64];
     match change {
         Change::Delete => call_delete::delete_call(
@@ -60,20 +92,7 @@ fn in_lent(
             offset,
             src,
         ),
-        Change::Resize(len) => call_resize::resize_call(
-            e,
-            pool,
-            records,
-            seen,
-            row,
-            heights,
-            firsts,
-            &mut kept,
-            &mut payload,
-            &mut scratch,
-            root,
-            len,
-        ),
+        Change::Resize(len) => resize_lent(pool, records, seen, row, heights, firsts, root, len),
     }
 }
 
@@ -165,7 +184,7 @@ fn in_65536(pool: &mut [u8], records: &mut [u8], root: u64, change: Change, src:
     )
 }
 
-// In rows of that many places, or of the next size that suffices: 1,024, 8,192 or 65,536.
+// In rows of 1,024, 8,192 or 65,536 places: the first of these sizes, from the given one on, that suffices.
 pub fn in_larger(
     places: usize,
     pool: &mut [u8],

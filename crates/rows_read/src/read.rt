@@ -64,7 +64,7 @@ fn in_65536(pool: &[u8], records: &[u8], root: u64, offset: u64, out: &mut [u8])
     in_lent(pool, records, &mut seen, &mut row, root, offset, out)
 }
 
-// In rows of that many places, or of the next size that suffices: 1,024, 8,192 or 65,536.
+// In rows of 1,024, 8,192 or 65,536 places: the first of these sizes, from the given one on, that suffices.
 pub fn in_larger(
     places: usize,
     pool: &[u8],

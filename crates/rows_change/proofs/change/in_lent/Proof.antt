@@ -1,6 +1,6 @@
 -- Each change is the call that it names, at edition one.
 use Rattle.rows_size.proofs.AtEditionOne.{one-here, scratch-here}
-use Rattle.rows_change.proofs.ChangesAtOne.{rows-here, drafts-here, filled-here, delete-one, write-one, resize-one}
+use Rattle.rows_change.proofs.ChangesAtOne.{rows-here, filled-here, delete-one, write-one, resize-one}
 use borrow.Author.Needs.{needs}
 use Rattle.rows_change.proofs.change.in_lent.Statement.{statement}
 use Rattle.rows_change.proofs.change.in_lent.Tie as tie
@@ -26,17 +26,8 @@ write-call-requires c κs = (search one-here, (search filled-here, search rows-h
 enum-known-change-2 : tie.Need-enum-known-change-2
 enum-known-change-2 c = search needs
 
-slice-aggregate-resize-call : tie.Need-slice-aggregate-resize-call
-slice-aggregate-resize-call c = search needs
-
-slice-aggregate-resize-call-2 : tie.Need-slice-aggregate-resize-call-2
-slice-aggregate-resize-call-2 c = search needs
-
-slice-aggregate-resize-call-3 : tie.Need-slice-aggregate-resize-call-3
-slice-aggregate-resize-call-3 c = search needs
-
-resize-call-requires : tie.Need-resize-call-requires
-resize-call-requires c κs = (search one-here, (search rows-here, search drafts-here))
+resize-lent-requires : tie.Need-resize-lent-requires
+resize-lent-requires c κs = search needs
 
 same-length : tie.Need-same-length
 same-length c = search needs
@@ -112,10 +103,7 @@ in-lent-spec =
     enum-known-change
     write-call-requires
     enum-known-change-2
-    slice-aggregate-resize-call
-    slice-aggregate-resize-call-2
-    slice-aggregate-resize-call-3
-    resize-call-requires
+    resize-lent-requires
     same-length
     same-length-2
     same-length-3

@@ -1,4 +1,4 @@
--- `hex` is safe and ends: the loop counts the slots that a pool may have, and one more.
+-- `hex` is safe and ends: the loop counts the slots that a program holds, and one more.
 use Prim.Native.Nat.{_≤_, _-_}
 use borrow.Author.Needs.{needs}
 use Rattle.vectors_print.proofs.dump.hex.Statement.{statement}
