@@ -14,22 +14,22 @@
  *
  * Stack. A call makes its rows there, by the number of slots: with 128, 1,024, 8,192 or 65,536 places, the least of these that suffices; so a pool
  * of 129 slots takes the stack of one of 1,024. Write, resize and delete make ten bytes a place, length, read, show and opening a head five, create and
- * audit one, wipe and tj_next none; and a call that is refused with 1 makes none. Resize also has a sheet of 937 numbers there, two bytes each, and the
- * walk is never deeper than six blocks. TJ_STACK(slots) is more than any call takes in a pool of so many slots. What each takes, in bytes, as
- * tests/c/stack.c measures it on x86-64, in a pool that one blob fills:
+ * audit one, wipe and tj_next none; and a call that is refused with 1 touches none and takes less than 2 KiB. Resize also has a sheet of 937 numbers there,
+ * two bytes each, and the walk is never deeper than six blocks. TJ_STACK(slots) is more than any call takes in a pool of so many slots. What each takes, in
+ * bytes, as tests/c/stack.c measures it on x86-64, in a pool that one blob fills or whose root claims the greatest height, whichever takes more:
  *
  *   slots                 64       1,024       8,192      65,536
  *   tj_wipe              135         135         135         135
- *   tj_create          1,959       3,719      11,527      69,511
- *   tj_length          2,215       8,647      45,687     333,607
- *   tj_read            2,423       8,983      46,103     334,103
- *   tj_write           3,799      13,303      85,527     659,511
- *   tj_resize          5,879      13,623      85,831     659,799
- *   tj_delete          3,479      12,951      85,143     659,095
- *   tj_show            2,263       8,743      45,815     333,767
- *   tj_audit           1,991       3,783      11,623      69,639
- *   tj_open_head       2,247       8,679      45,719     333,639
- *   tj_next              359         359         687         767
+ *   tj_create          3,175       4,375      11,623      69,047
+ *   tj_length          3,431       8,743      44,663     331,463
+ *   tj_read            3,607       8,983      44,935     331,767
+ *   tj_write           5,607      16,135      87,943     661,511
+ *   tj_resize          6,007      16,103      87,911     661,479
+ *   tj_delete          5,559      16,087      87,895     661,463
+ *   tj_show            3,479       8,807      44,727     331,527
+ *   tj_audit           3,207       4,407      11,655      69,079
+ *   tj_open_head       3,463       8,775      44,695     331,495
+ *   tj_next              359         359         359         359
  *
  * Every function leaves eight numbers in answer, whatever was there before:
  *   answer[TJ_REFUSAL]      the number of the refusal, 0 if the call was done

@@ -1,6 +1,6 @@
 /* How much stack each call takes, against what the header says: TJ_STACK at each size of the rows and one slot above it, and the header's table.
  * Each call runs on a stack of its own that was painted before; what is no longer painted below the caller's frame was used. The pool is filled
- * by one blob. The header's path is the program's only word. */
+ * by one blob, or holds a chain of blocks as high as a root may be. The header's path is the program's only word. */
 #define _GNU_SOURCE
 #include <pthread.h>
 #include <stdio.h>
@@ -13,7 +13,7 @@
 #define PAINT 0xA5
 #define LONGEST 2883456 /* the bytes of the longest blob in 65,536 slots */
 #define LITTLE 1024     /* what wipe and next may take, which make no rows */
-#define LEAST 512       /* what a call may take that is refused with 1 */
+#define LEAST 2048      /* what a call may take that is refused with 1: its frame has room for the smallest rows, which it does not touch */
 #define SLACK 512       /* between the header's table and what is measured: frames differ by compiler, but no row of 1,024 places is so short */
 #define COLUMNS 4       /* of the table */
 
@@ -160,7 +160,7 @@ static void measure(const char *function, void (*call)(void), uint64_t refusal, 
         failures++;
         fprintf(stderr, "%s, %zu slots: refused with %d, and %zu bytes of stack, not at most %zu or the table's\n", function, slots, (int)answer[TJ_REFUSAL], some, most);
     }
-    if (refusal == TJ_DONE) {
+    if (refusal != TJ_BAD_LENGTHS) {
         keep(function, slots, some);
     }
 }
@@ -221,6 +221,44 @@ static void measure_all(size_t slots)
     measure("resize", resize, TJ_DONE, most);
 }
 
+/* A block whose first child is the next slot, and its record. */
+static void lay(size_t slot, uint8_t height, uint8_t count)
+{
+    uint8_t *block = pool + TJ_BLOCK * slot, *record = records + TJ_RECORD * slot;
+    block[0] = 0x4C, block[1] = 0x31, block[2] = height, block[3] = count, block[4] = (uint8_t)slot, block[8] = 1;
+    memset(block + 16, 0xFF, height == 0 ? count : 4 * count);
+    memset(block + 16, 0, 4);
+    block[16] = (uint8_t)(slot + 1);
+    record[2] = slot == 0 ? 2 : 1, record[4] = 1;
+}
+
+/* Every call but wipe in a pool whose root is as high as a root may be, with one block of each height below it: the walk goes down to the leaf, and
+ * is refused at the next child. The same root under a head that no opening made. */
+static void measure_chain(size_t slots)
+{
+    const size_t most = TJ_STACK(slots);
+    size_t slot;
+    pool_length = TJ_BLOCK * slots;
+    records_length = TJ_RECORD * slots;
+    wipe();
+    for (slot = 0; slot < 5; slot++) {
+        lay(slot, (uint8_t)(5 - slot), slot == 0 ? 2 : 12);
+    }
+    lay(5, 0, TJ_LEAF);
+    root = 0, length = 1;
+    measure("create", create, TJ_WRONG_SHAPE, most);
+    measure("length", tell, TJ_WRONG_SHAPE, most);
+    measure("read", read, TJ_WRONG_SHAPE, most);
+    measure("write", write, TJ_WRONG_SHAPE, most);
+    measure("resize", resize, TJ_WRONG_SHAPE, most);
+    measure("delete", delete, TJ_WRONG_SHAPE, most);
+    measure("show", show, TJ_WRONG_SHAPE, most);
+    measure("audit", audit, TJ_WRONG_SHAPE, most);
+    measure("open_head", open_head, TJ_WRONG_SHAPE, most);
+    head[TJ_HEAD_ROOT] = 0, head[TJ_HEAD_PLACE] = 0, head[TJ_HEAD_LENGTH] = 1, head[TJ_HEAD_OPEN] = 1;
+    measure("next", next, TJ_DONE, LITTLE);
+}
+
 /* Lengths that fit no store: no row is made, however long the pool is. */
 static void measure_refused(size_t pool_bytes, size_t records_bytes)
 {
@@ -248,6 +286,9 @@ int main(int count, char **words)
     measure("nothing", nothing, TJ_DONE, 64);
     for (i = 0; i < COUNT(sizes); i++) {
         measure_all(sizes[i]);
+        if (sizes[i] > 5) {
+            measure_chain(sizes[i]);
+        }
     }
     hold_table();
     measure_refused(TJ_BLOCK * (TJ_SLOTS + 1), TJ_RECORD * (TJ_SLOTS + 1));
