@@ -19,17 +19,17 @@
  * bytes, as tests/c/stack.c measures it on x86-64, in a pool that one blob fills or whose root claims the greatest height, whichever takes more:
  *
  *   slots                 64       1,024       8,192      65,536
- *   tj_wipe              135         135         135         135
- *   tj_create          3,175       4,375      11,623      69,047
- *   tj_length          3,431       8,743      44,663     331,463
- *   tj_read            3,607       8,983      44,935     331,767
- *   tj_write           5,607      16,135      87,943     661,511
- *   tj_resize          6,007      16,103      87,911     661,479
- *   tj_delete          5,559      16,087      87,895     661,463
- *   tj_show            3,479       8,807      44,727     331,527
- *   tj_audit           3,207       4,407      11,655      69,079
- *   tj_open_head       3,463       8,775      44,695     331,495
- *   tj_next              359         359         359         359
+ *   tj_wipe               87          87          87          87
+ *   tj_create          3,127       4,327      11,575      68,999
+ *   tj_length          3,383       8,695      44,615     331,415
+ *   tj_read            3,543       8,919      44,871     331,703
+ *   tj_write           5,527      16,055      87,863     661,431
+ *   tj_resize          6,007      16,055      87,863     661,431
+ *   tj_delete          5,511      16,039      87,847     661,415
+ *   tj_show            3,431       8,759      44,679     331,479
+ *   tj_audit           3,159       4,359      11,607      69,031
+ *   tj_open_head       3,415       8,727      44,647     331,447
+ *   tj_next              311         311         311         311
  *
  * Every function leaves eight numbers in answer, whatever was there before:
  *   answer[TJ_REFUSAL]      the number of the refusal, 0 if the call was done
