@@ -59,8 +59,8 @@ fn near_below(e: Edition, pool: &[u8], d: usize, root: usize, j: usize) -> usize
 }
 
 // The descent by position: the slot of the j-th block that lies d heights below the root. Up to four heights, the farthest that the parent of a row of
-// leaves lies below a root in edition one, are taken without `far_below`, which calls itself: the last two here and those above by `near_below`. As that
-// has no other caller, the compiler puts both in place, knows the edition's numbers there, and divides by none.
+// leaves lies below a root in edition one, are taken without `far_below`, which calls itself: the last two by `two_below` and those above by `near_below`. Neither
+// calls itself: the compiler puts both in place, knows the edition's numbers there, and divides by none.
 pub fn slot_below(e: Edition, pool: &[u8], d: usize, root: usize, j: usize) -> usize
     requires { ⌜ Proper e ⌝ }
     ensures { λ r. ⌜ r ≡ below e (now (pool .entry)) d root j ⌝ }

@@ -31,7 +31,8 @@ struct Shared {
     met: Mutex<(Tally, Option<(Origin, Finding)>)>,
 }
 
-/// A run in so many is over a large pool; their share of the time is far larger.
+/// A run in so many is over a large pool, and a history in twice as many; their
+/// share of the time is far larger.
 const LARGE_EVERY: u64 = 25;
 
 /// Plays a run of the seed: every fifth is a history for the third demand, every
