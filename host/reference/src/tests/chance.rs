@@ -145,6 +145,7 @@ fn spoil(store: &mut Store, chance: &mut Chance) {
     let slot = chance.below(store.slots() as u64) as usize;
     let small = chance.below(16) as u8;
     match chance.below(6) {
+        // One height more than a root may have: 6 since W-203, 4 before.
         0 => store.block_mut(slot)[2] = small % 7,
         1 => store.block_mut(slot)[3] = chance.next() as u8 % 64,
         2 => store.block_mut(slot)[16 + 4 * (usize::from(small) % 12)] = small,
