@@ -1,4 +1,6 @@
 // The eight numbers of an answer: refusal or 0, named slot, two values, four zeros.
+#![tactic(auto)]
+
 ghost use Rattle.std.specs.Prelude.{◌≡◌};
 ghost use Rattle.meaning.specs.Refusals.{slot_number};
 ghost use Rattle.meaning.specs.Answers.{length_said, audit_said, created_said, changed_said, finished_said, leaf_said};

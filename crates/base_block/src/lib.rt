@@ -1,4 +1,6 @@
 // The check of one block, checks 2 and 3. It takes the block as a lent part, wherever that lies.
+#![tactic(auto)]
+
 pub mod build;
 pub mod flaws;
 pub mod forms;

@@ -1,5 +1,7 @@
 // How many slots change, told before any byte is stored: for a blob that gets longer or shorter, for a write and for a delete. Each number is the length
 // of the same list of changes that the loop of its call stores, and nothing is written here.
+#![tactic(auto)]
+
 ghost use Rattle.std.specs.Prelude.{◌≡◌, List, ℕ, ◌≤◌, ◌<◌, length};
 ghost use Rattle.meaning.specs.Edition.{Proper};
 ghost use Rattle.check_gate.specs.Gate.{Whole};

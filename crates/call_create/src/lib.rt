@@ -1,4 +1,6 @@
 // Create, for any edition: refusals 1 and 2 and the pool check, then what is behind them.
+#![tactic(auto)]
+
 pub mod claim;
 
 ghost use Rattle.std.specs.Prelude.{◌≡◌, length, replicate};

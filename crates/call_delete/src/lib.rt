@@ -1,4 +1,6 @@
 // Delete, for any edition: every block of the blob goes.
+#![tactic(auto)]
+
 pub mod free;
 
 ghost use Rattle.std.specs.Prelude.{◌≡◌, length};

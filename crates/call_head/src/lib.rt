@@ -1,4 +1,6 @@
 // The next bytes of a blob, found by position, for any edition: what a reading head hands out. It needs no record.
+#![tactic(auto)]
+
 pub mod copy;
 pub mod descend;
 

@@ -1,4 +1,6 @@
 // A read, for any edition: size bytes from an offset on.
+#![tactic(auto)]
+
 pub mod copy;
 
 ghost use Rattle.std.specs.Prelude.{◌≡◌, ◌*◌, ◌≤◌, length, take, replicate};

@@ -1,4 +1,6 @@
 // Resize, for any edition: what every call that changes a blob does first, then refusals 12 and 11 and the blob as it becomes.
+#![tactic(auto)]
+
 pub mod either;
 pub mod fit;
 pub mod found;

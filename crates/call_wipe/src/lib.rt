@@ -1,4 +1,6 @@
 // Wipe, for any edition: pool all zeros; each record free, version 0.
+#![tactic(auto)]
+
 ghost use Rattle.std.specs.Prelude.{◌≡◌, ◌*◌, length};
 ghost use Rattle.meaning.specs.Edition.{Proper};
 ghost use Rattle.meaning.specs.Calls.{free_records};

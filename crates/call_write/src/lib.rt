@@ -1,4 +1,6 @@
 // Write, for any edition: bytes put inside a blob's present length.
+#![tactic(auto)]
+
 pub mod put;
 
 ghost use Rattle.std.specs.Prelude.{◌≡◌, ◌+◌};

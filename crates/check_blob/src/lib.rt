@@ -1,4 +1,6 @@
 // The blob check: the walk from one root, with what it notes of the leaves.
+#![tactic(auto)]
+
 pub mod descent;
 pub mod notes;
 pub mod open;

@@ -1,4 +1,6 @@
 // The refusals that come first: 1, 2 and 3.
+#![tactic(auto)]
+
 ghost use Rattle.std.specs.Prelude.{◌≡◌, ◌*◌, ◌<◌, eqb, ltb, length};
 ghost use Rattle.meaning.specs.Lists.{both};
 ghost use Rattle.meaning.specs.Edition.{Proper};

@@ -1,4 +1,6 @@
 // The pool check: the walks from all roots with one shared set of visited slots, then the closing pass.
+#![tactic(auto)]
+
 pub mod closing;
 pub mod roots;
 

@@ -1,4 +1,6 @@
 // What every call that changes one blob does first: refusals 1, 2 and 3, the pool check, and the notes of where the blob's blocks stand.
+#![tactic(auto)]
+
 pub mod chart;
 pub mod marks;
 pub mod refusal;

@@ -7,7 +7,7 @@ use mathlib.Core.List.{List, [], ◌∷◌, ◌++◌, map, append_assoc}
 use Prim.Native.Nat.{ℕ, zero, suc, ◌+◌, ◌-◌, ◌*◌, ◌^◌, ◌≤◌, ◌<◌}
 use native.Mathlib.Omega.{arith}
 use lib.ListN.{length, get_or, take, drop, replicate, length-append, length-take, length-drop, length-replicate, take-append-drop, get_or-replicate}
-use lib.Seq.{take_all, take_at, drop_at, take_add, drop-drop, drop-cons, take-append-add, take-append_seam, length-take-le, get_or-take, get_or-drop}
+use lib.Seq.{take_all, take_at, drop_at, take-add, drop-drop, drop-cons, take-append-add, take-append_seam, length-take-le, get_or-take, get_or-drop}
 use Rattle.meaning.specs.declared.Edition.{Edition}
 use Rattle.meaning.specs.declared.Checked.TheVariants.{Passed}
 use Rattle.meaning.specs.Lists.{pick, part, joined, number, bytes, padded, fours, zeros, same_list}
@@ -109,7 +109,7 @@ unfolding fours joined
 fours_written zero l k h = refl
 fours_written (suc n) l k h =
     let q : 4 * suc n ≡ 4 + 4 * n = omega arith in
-    rw (q, take_add 4 (4 * n) l)
+    rw (q, take-add 4 (4 * n) l)
     (ap₂ ◌++◌ (bytes_of 4 (number (take 4 l)) (take 4 l) (length-take-le 4 l (omega arith)) refl (take_small 4 l h))
     (fours_written n (drop 4 l) (rw length-drop (omega arith)) (drop_small 4 l h)))
 
@@ -252,8 +252,8 @@ drop_two b h = drop-cons b 2 0 (omega arith) ∙ ap (λ (l : List ℕ). get_or b
 front_sixteen : (b : List ℕ) → 16 ≤ length b → take 16 b ≡ take 2 b ++ (get_or b 2 0 ∷ get_or b 3 0 ∷ (part 4 4 b ++ part 8 8 b))
 unfolding part
 front_sixteen b h =
-    let t : take 12 (drop 4 b) ≡ take 4 (drop 4 b) ++ take 8 (drop 8 b) = take_add 4 8 (drop 4 b) ∙ rw drop-drop in
-    take_add 2 14 b ∙ ap (λ (l : List ℕ). take 2 b ++ take 14 l) (drop_two b (omega arith))
+    let t : take 12 (drop 4 b) ≡ take 4 (drop 4 b) ++ take 8 (drop 8 b) = take-add 4 8 (drop 4 b) ∙ rw drop-drop in
+    take-add 2 14 b ∙ ap (λ (l : List ℕ). take 2 b ++ take 14 l) (drop_two b (omega arith))
     ∙ ap (λ (l : List ℕ). take 2 b ++ (get_or b 2 0 ∷ get_or b 3 0 ∷ l)) t
 
 -- as many slot numbers are read as were asked

@@ -8,13 +8,13 @@ use native.Mathlib.Nat.{mul_comm, mul_assoc, pow-suc, pow-succ', zero-add, one-m
 use native.Mathlib.Numerals.{add-one}
 use native.Mathlib.Omega.{arith}
 use lib.ListN.{length, get_or, take, drop, length-drop}
-use lib.Seq.{take_add, take-suc, take-take, drop_at, drop-drop, drop-cons, get_or-drop, length-take-le}
+use lib.Seq.{take-add, take-suc, take-take, drop_at, drop-drop, drop-cons, get_or-drop, length-take-le}
 use Rattle.meaning.specs.Lists.{part, number, bytes}
 
 -- a part of j + k elements is one of j, then one of k
 pub part_split : {A : Type 0} (j k at : ℕ) (l : List A) → part at (j + k) l ≡ part at j l ++ part (at + j) k l
 unfolding part
-part_split j k at l = take_add j k (drop at l) ∙ rw drop-drop
+part_split j k at l = take-add j k (drop at l) ∙ rw drop-drop
 
 -- a part that lies within a list is as long as was asked
 pub part_length : {A : Type 0} (at k : ℕ) (l : List A) → at + k ≤ length l → length (part at k l) ≡ k
@@ -24,7 +24,7 @@ part_length at k l h = length-take-le k (drop at l) (rw length-drop (omega arith
 -- a part is the end of a front
 pub part_front : {A : Type 0} (at k : ℕ) (l : List A) → at ≤ length l → drop at (take (at + k) l) ≡ part at k l
 unfolding part
-part_front at k l h = rw (take_add at k l) (drop_at (take at l) (take k (drop at l)) at (length-take-le at l h))
+part_front at k l h = rw (take-add at k l) (drop_at (take at l) (take k (drop at l)) at (length-take-le at l h))
 
 -- a part of a part is a part
 pub part_part : {A : Type 0} (at n b k : ℕ) (l : List A) → b + k ≤ n → at + n ≤ length l → part b k (part at n l) ≡ part (at + b) k l

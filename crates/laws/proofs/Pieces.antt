@@ -1,7 +1,7 @@
 -- Pieces that a head hands out. Bytes are told one by one, so pieces one behind the other are one piece, and a run of askings, joined, is one piece as long
 -- as all that was asked, or as all that remained.
 use mathlib.Core.Path.{◌≡◌, refl, ap, ◌∙◌, sym}
-use mathlib.Core.List.{List, [], ◌∷◌, ◌++◌, map, map_append}
+use mathlib.Core.List.{List, [], ◌∷◌, ◌++◌, map, map-append}
 use Prim.Native.Nat.{ℕ, ◌+◌, ◌-◌, ◌≤◌, min}
 use native.Mathlib.Nat.{zero-min}
 use native.Mathlib.Omega.{arith}
@@ -24,7 +24,7 @@ module _ (e : Edition) (P : List ℕ) (h r : ℕ) where
   -- pieces one behind the other are one piece
   pub piece_append : (p m n : ℕ) → piece e P h r p (m + n) ≡ piece e P h r p m ++ piece e P h r (p + m) n
   unfolding piece
-  piece_append p m n = ap (map (byte_at e P h r)) (range_append p m n) ∙ map_append (byte_at e P h r) (range p m) (range (p + m) n)
+  piece_append p m n = ap (map (byte_at e P h r)) (range_append p m n) ∙ map-append (byte_at e P h r) (range p m) (range (p + m) n)
 
 -- a run of askings of a head on root r of length n, from a place on
 module _ (e : Edition) (P : List ℕ) (r n : ℕ) where

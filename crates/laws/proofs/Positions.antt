@@ -4,7 +4,7 @@
 use mathlib.Core.Path.{◌≡◌, refl, ap, ap₂, ◌∙◌, sym}
 use mathlib.Core.Logic.{◌⊎◌, inl, inr}
 use mathlib.Core.Bool.{Bool, true, false}
-use mathlib.Core.List.{List, [], ◌∷◌, ◌++◌, map, append_assoc, append-nil, map_append}
+use mathlib.Core.List.{List, [], ◌∷◌, ◌++◌, map, append_assoc, append-nil, map-append}
 use Prim.Native.Nat.{ℕ, zero, suc, ◌+◌, ◌-◌, ◌*◌, ◌/◌, ◌%◌, ◌^◌, ◌≤◌, ◌<◌}
 use native.Mathlib.Nat.{add-zero, mul-zero, mul-suc, mul_comm, div-add-mod, div-lt_iff_lt-mul, mul-le-mul_left}
 use native.Mathlib.Omega.{arith}
@@ -44,7 +44,7 @@ bytes_append : (ls ms : List (ℕ × List ℕ)) → bytes_of (ls ++ ms) ≡ byte
 unfolding bytes_of
 bytes_append ls ms =
     let second : ℕ × List ℕ → List ℕ = λ l. l.1 in
-    ap joined (map_append second ls ms) ∙ joined_append (map second ls) (map second ms)
+    ap joined (map-append second ls ms) ∙ joined_append (map second ls) (map second ms)
 
 -- a row's content is its leaves' bytes, if each tree's is
 row_content : (h : ℕ) → ((t : Tree h) → content h t ≡ bytes_of (leaves h t)) → (ts : List (Tree h))

@@ -1,6 +1,6 @@
 -- The slots of a tree in walk order: a block's own, then those below it, child after child. They are the slots of its blocks.
 use mathlib.Core.Path.{◌≡◌, refl, ap, ap₂, sym, ◌∙◌}
-use mathlib.Core.List.{List, [], ◌∷◌, ◌++◌, map, map_append}
+use mathlib.Core.List.{List, [], ◌∷◌, ◌++◌, map, map-append}
 use Prim.Native.Nat.{ℕ, zero, suc}
 use lib.ListN.{drop}
 use Rattle.meaning.specs.Lists.{joined}
@@ -28,7 +28,7 @@ row_slots_lem : (h : ℕ) → ((t : Tree h) → slots h t ≡ map (λ c. c.0) (c
 unfolding joined
 row_slots_lem h each [] = refl
 row_slots_lem h each (t ∷ ts) =
-    ap₂ ◌++◌ (each t) (row_slots_lem h each ts) ∙ sym (map_append (λ (c : ℕ × Cell). c.0) (cells h t) (joined (map (cells h) ts)))
+    ap₂ ◌++◌ (each t) (row_slots_lem h each ts) ∙ sym (map-append (λ (c : ℕ × Cell). c.0) (cells h t) (joined (map (cells h) ts)))
 
 -- they are the slots of its blocks
 pub slots_cells : (h : ℕ) (t : Tree h) → slots h t ≡ map (λ c. c.0) (cells h t)

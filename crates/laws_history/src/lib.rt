@@ -1,1 +1,2 @@
 // Pure laws of runs of calls, in proofs/: no code stands here.
+#![tactic(auto)]

@@ -1,10 +1,12 @@
 // The types that document 01's definitions and the code share: an edition, a refusal, the answers.
+#![tactic(auto)]
+
 ghost use Rattle.std.specs.Prelude.{◌≡◌};
 ghost use Rattle.meaning.specs.Edition.{one};
 ghost use Rattle.meaning.specs.Refusals.{refusal_of, at, nowhere};
 
 // The numbers that an edition fixes.
-#[derive(Drop)]
+#[derive(Clone, Copy, Drop)]
 pub struct Edition {
     // A block's first bytes.
     pub mark: [u8; 2],
@@ -35,14 +37,14 @@ pub fn edition_one() -> Edition
 }
 
 // The slot that a refusal names.
-#[derive(Drop)]
+#[derive(Clone, Copy, Drop)]
 pub enum Named {
     Nowhere,
     Slot(u64),
 }
 
 // Why a call is refused: document 01's number, and the named slot.
-#[derive(Drop)]
+#[derive(Clone, Copy, Drop)]
 pub struct Refusal {
     pub number: u64,
     pub named: Named,
@@ -73,56 +75,56 @@ pub fn refuse_nowhere(number: u64) -> Refusal
 }
 
 // A block is visited as a root, or as a child of its parent.
-#[derive(Drop)]
+#[derive(Clone, Copy, Drop)]
 pub enum Role {
     Root,
     Child(usize),
 }
 
 // What a check answers.
-#[derive(Drop)]
+#[derive(Clone, Copy, Drop)]
 pub enum Checked {
     Passed,
     Faulty(Refusal),
 }
 
 // What length answers.
-#[derive(Drop)]
+#[derive(Clone, Copy, Drop)]
 pub enum Length {
     Is(u64),
     Refused(Refusal),
 }
 
 // What the audit answers: the count of live slots.
-#[derive(Drop)]
+#[derive(Clone, Copy, Drop)]
 pub enum Audit {
     Live(u64),
     Refused(Refusal),
 }
 
 // What create answers: the new blob's root.
-#[derive(Drop)]
+#[derive(Clone, Copy, Drop)]
 pub enum Created {
     At(u64),
     Refused(Refusal),
 }
 
 // What write, resize and delete answer.
-#[derive(Drop)]
+#[derive(Clone, Copy, Drop)]
 pub enum Changed {
     Done,
     Refused(Refusal),
 }
 
 // What read and wipe answer.
-#[derive(Drop)]
+#[derive(Clone, Copy, Drop)]
 pub enum Finished {
     Done,
     Refused(Refusal),
 }
 
 // Where a leaf's data bytes lie in the pool: their start and how many they are.
-#[derive(Drop)]
+#[derive(Clone, Copy, Drop)]
 pub enum Leaf {
     At(usize, usize),
     Refused(Refusal),

@@ -1,4 +1,6 @@
 // A blob that gets longer: what each slot becomes, by where its block stands or by how many usable slots lie below it. Nothing is stored here.
+#![tactic(auto)]
+
 pub mod added;
 pub mod enlarged;
 pub mod extended;

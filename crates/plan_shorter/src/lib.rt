@@ -1,4 +1,6 @@
 // A blob that gets shorter: what each slot becomes, by where its block stands.
+#![tactic(auto)]
+
 pub mod kept;
 pub mod trimmed;
 

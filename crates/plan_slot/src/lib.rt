@@ -1,4 +1,6 @@
 // What one slot becomes in a changing call, and the one function that carries it out.
+#![tactic(auto)]
+
 pub mod carry;
 pub mod change;
 pub mod keep;

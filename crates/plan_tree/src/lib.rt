@@ -1,4 +1,6 @@
 // Trees in numbers: full subtrees, the right edge, where new blocks stand, what a cut leaves.
+#![tactic(auto)]
+
 pub mod cuts;
 pub mod edge;
 pub mod seats;

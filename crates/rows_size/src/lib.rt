@@ -1,5 +1,7 @@
 // Which rows suffice for a pool? Rows are a call's notes, with a place for each slot, and stand on the stack. There are four sizes, 128, 1,024, 8,192
 // and 65,536 places, and a call takes the least that suffices: a small pool does not pay for a large one.
+#![tactic(auto)]
+
 ghost use Rattle.std.specs.Prelude.{◌≡◌};
 ghost use Rattle.meaning.specs.Edition.{one};
 ghost use Rattle.meaning.specs.Calls.{slots_in, sized};

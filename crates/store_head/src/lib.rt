@@ -1,6 +1,8 @@
 // A reading head at edition one. It keeps hold of the pool that it reads from, the blob's root and the place of the next byte, and what opening answered.
 // Each function that takes, makes or returns a head is thin and has no branch: its proof is a walk of the code by hand. The work is done on plain slices
 // and numbers, by `next_bytes`, which serves whoever has no head in hand.
+#![tactic(auto)]
+
 ghost use Rattle.std.specs.Prelude.{◌≡◌, ◌+◌, ◌^◌, ◌<◌, length};
 ghost use Rattle.meaning.specs.Edition.{one};
 ghost use Rattle.meaning.specs.Calls.{length_call};

@@ -1,4 +1,6 @@
 // Each call of a script, run once and printed.
+#![tactic(auto)]
+
 pub mod changes;
 pub mod pieces;
 pub mod reads;

@@ -1,4 +1,6 @@
 // Each answer, and a whole store, printed.
+#![tactic(auto)]
+
 pub mod answers;
 pub mod dump;
 pub mod heads;

@@ -5,7 +5,7 @@ use Prim.Native.Nat.{ℕ, zero, suc, ◌+◌, ◌-◌, ◌*◌, ◌≤◌}
 use native.Mathlib.Omega.{arith}
 use borrow.Rule.Slice.PartMut.{put_mid}
 use lib.ListN.{length, take, drop, take-append-drop}
-use lib.Seq.{take_add, take-take, drop-drop}
+use lib.Seq.{take-add, take-take, drop-drop}
 use Rattle.meaning.specs.Lists.{part, pasted, bytes}
 use Rattle.meaning.specs.Bytes.{block}
 use Rattle.meaning.specs.Change.{put}
@@ -32,7 +32,7 @@ pasted_within a k w new l fits long =
     let r : drop (k + length new) q ++ drop (a + w) l ≡ drop (a + k + length new) l =
     ap (λ (x : List ℕ). drop (k + length new) q ++ x) (sym (drop-drop w a l)) ∙ rest_joined (k + length new) w (drop a l) fits
     ∙ drop-drop (k + length new) a l ∙ ap (λ (i : ℕ). drop i l) m in
-    rw (size, t, take_add a k l, ← r) (simp append_assoc)
+    rw (size, t, take-add a k l, ← r) (simp append_assoc)
 
 -- what is pasted over the same place before is gone
 pub pasted_over : (a : ℕ) (x y l : List ℕ) → length x ≡ length y → a + length y ≤ length l → pasted a x (pasted a y l) ≡ pasted a x l

@@ -2,7 +2,7 @@
 -- Bytes and leaves so far go in and come out, so a row's answer is that of its last child, or of the first that fails.
 use mathlib.Core.Path.{◌≡◌, refl, ap, ◌∙◌, sym}
 use mathlib.Core.Bool.{Bool, true, false}
-use mathlib.Core.List.{List, [], ◌∷◌, ◌++◌, map, map_append}
+use mathlib.Core.List.{List, [], ◌∷◌, ◌++◌, map, map-append}
 use Prim.Native.Nat.{ℕ, zero, suc, ◌+◌, ◌-◌, ◌*◌}
 use native.Mathlib.Omega.{arith}
 use borrow.Author.Tests.{ne_eqb}
@@ -51,7 +51,7 @@ note_append : (b k : ℕ) (o : List ℕ) (m n : ℕ) (xs ys : List (ℕ × List 
 unfolding note_leaves
 note_append b k o m n xs ys =
     same_noted (omega arith) (ap (λ (z : ℕ). k + z) (length-append xs ys) ∙ omega arith)
-    (ap (put_all o k) (map_append (λ l. l.0) xs ys)
+    (ap (put_all o k) (map-append (λ l. l.0) xs ys)
     ∙ put_append o k (map (λ l. l.0) xs) (map (λ l. l.0) ys)
     ∙ ap (λ (z : ℕ). put_all (put_all o k (map (λ l. l.0) xs)) (k + z) (map (λ l. l.0) ys)) (length-map xs (λ l. l.0)))
 

@@ -1,7 +1,7 @@
 -- What each slot holds after growth: a new block's cell, an old right edge block's, or what it held.
 use mathlib.Core.Path.{◌≡◌, refl, sym, ap, ◌∙◌}
 use mathlib.Core.Bool.{Bool, true, false}
-use mathlib.Core.List.{List, [], ◌∷◌, ◌++◌, append_assoc, append-nil, map, map_append}
+use mathlib.Core.List.{List, [], ◌∷◌, ◌++◌, append_assoc, append-nil, map, map-append}
 use Prim.Native.Nat.{ℕ, zero, suc, ◌+◌, ◌-◌}
 use lib.Dec.{eqb}
 use lib.ListN.{length, get_or, drop}
@@ -63,7 +63,7 @@ joined_none (x ∷ xs) = joined_none xs
 
 -- two rows' blocks
 pub row_cells_append : (h : ℕ) (xs ys : List (Tree h)) → row_cells h (xs ++ ys) ≡ row_cells h xs ++ row_cells h ys
-row_cells_append h xs ys = rw (map_append, joined_append)
+row_cells_append h xs ys = rw (map-append, joined_append)
 
 -- a tree's cells: its top, and those below
 unfoldable pub below : (h : ℕ) → Tree h → List (ℕ × Cell)

@@ -3,7 +3,7 @@
 -- block of the right edge gets the new children that there is room for.
 use mathlib.Core.Path.{◌≡◌, refl, sym, ap, ap₂, ◌∙◌}
 use mathlib.Core.Bool.{Bool, true, false}
-use mathlib.Core.List.{List, [], ◌∷◌, ◌++◌, map, append_assoc, append-nil, map_append}
+use mathlib.Core.List.{List, [], ◌∷◌, ◌++◌, map, append_assoc, append-nil, map-append}
 use Prim.Native.Nat.{ℕ, zero, suc, ◌+◌, ◌-◌, ◌*◌, ◌^◌, ◌≤◌, min}
 use native.Mathlib.Nat.{pow-zero, pow-suc, mul-add, mul_assoc, mul-suc, mul-le-mul_left, min-eq_left}
 use native.Mathlib.Omega.{arith}
@@ -180,7 +180,7 @@ module _ (e : Edition) (some : 1 ≤ e.leaf) (two : 2 ≤ e.fan) (len n : ℕ) (
       let same = same_room e.fan h d x in
       let nums = numbered e some two h false x b.shaped b.before n (b.ends ∙ ap (λ (j : ℕ). j + count h x) b.begins) in
       let slots : map (slot_of h) (xs ++ (y ∷ [])) ≡ map (slot_of h) (xs ++ (x ∷ [])) =
-      map_append (slot_of h) xs (y ∷ []) ∙ ap (λ (s : ℕ). map (slot_of h) xs ++ (s ∷ [])) (last_slot h d x) ∙ sym (map_append (slot_of h) xs (x ∷ [])) in
+      map-append (slot_of h) xs (y ∷ []) ∙ ap (λ (s : ℕ). map (slot_of h) xs ++ (s ∷ [])) (last_slot h d x) ∙ sym (map-append (slot_of h) xs (x ∷ [])) in
       rw (
         last_row h d k xs x,
         of_end_last 0 (room_of e.fan h) xs y,

@@ -1,7 +1,7 @@
 -- Leaf by leaf at the root: the count of leaves says whether there is room.
 use mathlib.Core.Path.{◌≡◌, refl, sym, ap, ◌∙◌}
 use mathlib.Core.Bool.{true, false}
-use mathlib.Core.List.{List, [], ◌∷◌, ◌++◌, append-nil, map, map_append}
+use mathlib.Core.List.{List, [], ◌∷◌, ◌++◌, append-nil, map, map-append}
 use Prim.Native.Nat.{ℕ, zero, suc, ◌+◌, ◌-◌, ◌*◌, ◌^◌, ◌≤◌}
 use native.Mathlib.Nat.{pow-zero, pow-succ', one-le-pow, pow-le-pow_right, sub-zero, zero-sub, suc-sub-suc, add-zero}
 use native.Mathlib.Omega.{arith}
@@ -38,7 +38,7 @@ unfolding leaves joined
 count_room fan zero t r e = rw (e, pow-zero)
 count_room fan (suc h) t r e =
     let z : fan ≡ length e.front + suc (fan - suc (length e.front)) = omega (arith, e.fits) in
-    rw (e.split, map_append, joined_append, length-append, pow-succ', append-nil)
+    rw (e.split, map-append, joined_append, length-append, pow-succ', append-nil)
     (omega (
       arith,
       e.room,

@@ -1,7 +1,7 @@
 -- What the root holds as the tree gets higher, and what a block of the right edge holds when it is filled.
 use mathlib.Core.Path.{◌≡◌, refl}
 use mathlib.Core.Bool.{Bool, true, false}
-use mathlib.Core.List.{List, [], ◌∷◌, ◌++◌, map_append}
+use mathlib.Core.List.{List, [], ◌∷◌, ◌++◌, map-append}
 use Prim.Native.Nat.{ℕ, zero, suc, ◌+◌, ◌-◌, ◌*◌, ◌^◌, ◌≤◌, ◌<◌}
 use native.Mathlib.Omega.{arith}
 use lib.Dec.{leb, ltb}
@@ -133,9 +133,9 @@ module _ (fan : ℕ) (one : 1 ≤ fan) (lens free : List ℕ) where
         of_end_last 0 (space_of fan h) xs x,
       )
       (rw (
-        map_append (slot_of h) (xs ++ (fill fan h lens free x).0 ∷ []),
-        map_append (slot_of h) xs ((fill fan h lens free x).0 ∷ []),
-        map_append (slot_of h) xs (x ∷ []),
+        map-append (slot_of h) (xs ++ (fill fan h lens free x).0 ∷ []),
+        map-append (slot_of h) xs ((fill fan h lens free x).0 ∷ []),
+        map-append (slot_of h) xs (x ∷ []),
         fill_slot fan h lens free x,
         slots_row fan one lens free h m (room_of fan h x) (space_of fan h x),
       ))

@@ -8,7 +8,7 @@ use native.Mathlib.Nat.{mul-zero, mul-suc}
 use native.Mathlib.Decide.{dec_le}
 use native.Mathlib.Omega.{arith}
 use lib.ListN.{length, length-append, length-drop, take, drop, replicate}
-use lib.Seq.{take_all, take_add, take-append-add, take-append-le}
+use lib.Seq.{take_all, take-add, take-append-add, take-append-le}
 use Rattle.meaning.specs.declared.Edition.{Edition}
 use Rattle.meaning.specs.Lists.{pick, joined, map_last, padded}
 use Rattle.meaning.specs.Tree.{Tree, Blob, slot_of, content, leaves, leaves_of}
@@ -36,7 +36,7 @@ padded_is n l = by (dec_le (length l) n)
 padded_after : (k m : ℕ) (l : List ℕ) → k ≤ length l → take k l ++ padded m (drop k l) ≡ padded (k + m) l
 padded_after k m l h =
     let z : m - (length l - k) ≡ k + m - length l = omega arith in
-    rw (padded_is m (drop k l), padded_is (k + m) l, length-drop k l, z, take_add k m l)
+    rw (padded_is m (drop k l), padded_is (k + m) l, length-drop k l, z, take-add k m l)
     (sym (append_assoc (take k l) (take m (drop k l)) (replicate (k + m - length l) 0)))
 
 -- the leaves before the last, and the last

@@ -2,12 +2,12 @@
 -- and slots stay, and so does every cell but for the bytes in the leaves' rows.
 use mathlib.Core.Path.{◌≡◌, refl, sym, ap, ap₂, ◌∙◌}
 use mathlib.Core.Bool.{Bool, true, false}
-use mathlib.Core.List.{List, [], ◌∷◌, ◌++◌, map, map_append, map-map}
+use mathlib.Core.List.{List, [], ◌∷◌, ◌++◌, map, map-append, map-map}
 use Prim.Native.Nat.{ℕ, zero, suc, ◌+◌, ◌≤◌}
 use native.Mathlib.Omega.{arith}
 use lib.Dec.{eqb}
 use lib.ListN.{length, length-append, length-drop, take, drop}
-use lib.Seq.{take_add, take_all, drop-drop, length-take-le}
+use lib.Seq.{take-add, take_all, drop-drop, length-take-le}
 use Rattle.meaning.specs.declared.Edition.{Edition}
 use Rattle.meaning.specs.Lists.{pick, joined}
 use Rattle.meaning.specs.Bytes.{Cell}
@@ -38,7 +38,7 @@ taken_row h each d (t ∷ ts) =
     let m = length (content h t) in
     let n = length (joined (map (content h) ts)) in
     let l = length-append (content h t) (joined (map (content h) ts)) in (
-      rw (l, take_add m n d) (ap₂ ◌++◌ a.0 (r.0 ∙ rw a.1)),
+      rw (l, take-add m n d) (ap₂ ◌++◌ a.0 (r.0 ∙ rw a.1)),
       rw l (r.1 ∙ rw a.1 (drop-drop n m d)),
     )
 
@@ -111,10 +111,10 @@ unfolding KeepsCells along joined
 cells_row h each d [] fits = refl
 cells_row h each d (t ∷ ts) fits =
     let l = length-append (content h t) (joined (map (content h) ts)) in
-    map_append hollow (cells h (refill h d t).made) (joined (map (cells h) (along (refill h) (refill h d t).left ts).made))
+    map-append hollow (cells h (refill h d t).made) (joined (map (cells h) (along (refill h) (refill h d t).left ts).made))
     ∙ ap₂ ◌++◌ (each d t (omega arith))
     (cells_row h each (refill h d t).left ts (left_enough h d t (length (joined (map (content h) ts))) (omega arith)))
-    ∙ sym (map_append hollow (cells h t) (joined (map (cells h) ts)))
+    ∙ sym (map-append hollow (cells h t) (joined (map (cells h) ts)))
 
 -- at every height
 keeps_cells : (h : ℕ) → KeepsCells h

@@ -1,12 +1,12 @@
 -- How often a slot stands in a list: what a resize takes and gives back is told by these counts. A tree that grows
 -- takes the first free slots, as many as it has blocks more; what grows twice takes them one part after the other.
 use mathlib.Core.Path.{◌≡◌, refl, sym, ap, ◌∙◌}
-use mathlib.Core.List.{List, [], ◌∷◌, ◌++◌, map, map_append, Memᴰ}
+use mathlib.Core.List.{List, [], ◌∷◌, ◌++◌, map, map-append, Memᴰ}
 use Prim.Native.Nat.{ℕ, zero, suc, ◌+◌, ◌≤◌}
 use native.Mathlib.Omega.{arith}
 use lib.Dec.{eqb}
 use lib.ListN.{length, length-append, length-drop, take, drop}
-use lib.Seq.{drop-drop, take_add}
+use lib.Seq.{drop-drop, take-add}
 use borrow.Author.Tests.{eq-eqb, eqb-true}
 use Rattle.meaning.specs.Lists.{pick, joined}
 use Rattle.meaning.specs.Tree.{Tree, Blob, slot_of, at_slot, cells, cells_of, slots_of, length_of}
@@ -78,7 +78,7 @@ grows_then free a b free' c rest g g' = record {
   more = omega (arith, g.more, g'.more);
   taken = λ enough s.
       let fits : g'.k ≤ length free' = rw (g.left, length-drop g.k free) (omega arith) in
-      rw (take_add g.k g'.k free, times_append s (take g.k free) (take g'.k (drop g.k free)))
+      rw (take-add g.k g'.k free, times_append s (take g.k free) (take g'.k (drop g.k free)))
       (omega (arith, g.taken (omega arith) s, g'.taken fits s, ap (λ (l : List ℕ). times s (take g'.k l)) g.left));
   left = g'.left ∙ rw g.left (drop-drop g'.k g.k free);
 }

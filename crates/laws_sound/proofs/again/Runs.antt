@@ -2,7 +2,7 @@
 -- those of the book: each blob alive with the length last given to it. So the live slots number the sum of the block totals of the book's lengths.
 use mathlib.Core.Path.{◌≡◌, refl, ap, ap₂, ◌∙◌, sym, subst}
 use mathlib.Core.Bool.{true}
-use mathlib.Core.List.{List, [], ◌∷◌, ◌++◌, map_append}
+use mathlib.Core.List.{List, [], ◌∷◌, ◌++◌, map-append}
 use Prim.Native.Nat.{ℕ, zero, suc, ◌+◌, ◌≤◌}
 use native.Mathlib.Omega.{arith}
 use borrow.Author.Tests.{eq-eqb, ne_eqb}
@@ -69,7 +69,7 @@ weigh_cons f b bs = refl
 weigh_append : (f : ℕ → ℕ → ℕ) (xs ys : List Blob) → weigh f (xs ++ ys) ≡ weigh f xs + weigh f ys
 unfolding entries
 weigh_append f xs ys =
-    ap (tally f) (map_append (λ b. (root_of b, length_of b)) xs ys) ∙ tally_append f (entries xs) (entries ys)
+    ap (tally f) (map-append (λ b. (root_of b, length_of b)) xs ys) ∙ tally_append f (entries xs) (entries ys)
 
 -- blobs of other roots
 weigh_other : (f : ℕ → ℕ → ℕ) (r : ℕ) (bs : List Blob) → Every (λ b. root_of b ≡ r → ⊥) bs → weigh (but r f) bs ≡ weigh f bs

@@ -2,7 +2,7 @@
 -- which share a slot, that reach every part, beside free slots of zeros.
 use mathlib.Core.Path.{◌≡◌, refl, ap, ◌∙◌, sym}
 use mathlib.Core.Bool.{Bool, true}
-use mathlib.Core.List.{List, [], ◌∷◌, ◌++◌, map, map_append}
+use mathlib.Core.List.{List, [], ◌∷◌, ◌++◌, map, map-append}
 use Prim.Native.Nat.{ℕ, zero, suc, ◌+◌, ◌*◌, ◌≤◌, ◌<◌}
 use native.Mathlib.Omega.{arith}
 use borrow.Author.Tests.{eqb-true, eqb-false, eq-eqb}
@@ -51,7 +51,7 @@ all_cons b bs = refl
 -- of two lists of blobs in a row
 pub all_append : (xs ys : List Blob) → all_slots (xs ++ ys) ≡ all_slots xs ++ all_slots ys
 unfolding all_slots
-all_append xs ys = ap joined (map_append slots_of xs ys) ∙ joined_append (map slots_of xs) (map slots_of ys)
+all_append xs ys = ap joined (map-append slots_of xs ys) ∙ joined_append (map slots_of xs) (map slots_of ys)
 
 module _ (e : Edition) (N : ℕ) (P R : List ℕ) where
   -- a slot of a blob other than its root is a part

@@ -2,7 +2,7 @@
 -- go are left free and all zeros, and those that are taken were free, the other blobs still lie in the pool and it passes again.
 use mathlib.Core.Path.{◌≡◌, refl, ap, ap₂, ◌∙◌, sym}
 use mathlib.Core.Bool.{Bool, true, false}
-use mathlib.Core.List.{List, [], ◌∷◌, ◌++◌, map, map_append}
+use mathlib.Core.List.{List, [], ◌∷◌, ◌++◌, map, map-append}
 use Prim.Native.Nat.{ℕ, zero, suc, ◌+◌, ◌≤◌, ◌<◌}
 use native.Mathlib.Nat.{zero-add}
 use native.Mathlib.Omega.{arith}
@@ -198,8 +198,8 @@ heads_replaced e N P R P' R' r m before after X X' room q head same =
     filter_same (is_head R) (is_head R') 0 r (λ s lo hi. same s (omega arith) (λ k. absurd (omega arith))) in
     let b : filter (is_head R) (range (suc r) m) ≡ filter (is_head R') (range (suc r) m) =
     filter_same (is_head R) (is_head R') (suc r) m (λ s lo hi. same s (omega arith) (λ k. absurd (omega arith))) in
-    map_append root_of before (X' ++ after)
-    ∙ ap₂ ◌++◌ (q.before ∙ a) (map_append root_of X' after ∙ ap₂ ◌++◌ head (q.after ∙ b))
+    map-append root_of before (X' ++ after)
+    ∙ ap₂ ◌++◌ (q.before ∙ a) (map-append root_of X' after ∙ ap₂ ◌++◌ head (q.after ∙ b))
     ∙ sym (filter_parted (is_head R') r m) ∙ ap (λ (n : ℕ). filter (is_head R') (range 0 n)) (sym room)
 
 -- they do so, where the slots change as above
