@@ -3,28 +3,17 @@ use mathlib.Core.Path.{refl, ap, ◌∙◌}
 use Prim.Native.Nat.{ℕ, ◌+◌, ◌%◌}
 use native.Mathlib.Nat.{mod-eq_of_lt}
 use native.Mathlib.Omega.{arith}
-use borrow.Author.Rules.{rules}
 use Rattle.meaning.specs.Lists.{pick, range}
 use Rattle.meaning.specs.Shape.{up, total_within, total}
 use Rattle.laws.proofs.Totals.{total_le}
 use Rattle.base_shape.proofs.sheet.SettledOnce.{row_right}
-use Rattle.base_shape.proofs.sheet.early_row.Statement.{statement}
-use Rattle.base_shape.proofs.sheet.early_row.Tie as tie
+use Rattle.base_shape.proofs.sheet.early_row.Goals as goal
 
-mul-result : tie.Need-overflow-mul-result
-mul-result c = search rules
-
-array-read-result : tie.Need-array-read-result
-array-read-result c = search rules
-
-returns : tie.Need-returns
+pub returns : goal.returns
 unfolding range total total_within up pick
 returns c =
     row_right (total 12) 937 refl (c.args.i % 64) (omega arith)
     ∙ ap (λ (k : ℕ). total 12 (k + 1)) (mod-eq_of_lt {n = c.args.i} {m = 64} (omega arith))
 
-cast-result : tie.Need-overflow-cast-result
-cast-result c = record { fits = omega (arith, returns c, total_le 12 (c.args.i + 1) (omega arith)) }
-
-pub early-row-spec : {M : Type 1} → statement M
-early-row-spec = tie.close (tie.spec mul-result array-read-result cast-result returns)
+pub overflow_cast-result : goal.overflow_cast-result
+overflow_cast-result c = record { fits = omega (arith, returns c, total_le 12 (c.args.i + 1) (omega arith)) }
