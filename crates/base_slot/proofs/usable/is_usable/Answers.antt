@@ -1,0 +1,9 @@
+-- By the record's state, then its version.
+use Rattle.base_slot.proofs.usable.UsableInOrder.{usable_live, usable_free}
+use Rattle.base_slot.proofs.usable.is_usable.Goals as goal
+
+pub returns-then-state_of-ne0 : goal.returns-then-state_of-ne0
+returns-then-state_of-ne0 c = search usable_live
+
+pub returns : goal.returns
+returns c = search usable_free
