@@ -8,17 +8,17 @@ use Rattle.meaning.specs.declared.Named.{Named}
 use Rattle.meaning.specs.declared.Named.TheVariants.{Nowhere, Slot}
 use Rattle.meaning.specs.declared.Refusal.{Refusal}
 use Rattle.meaning.specs.declared.Length.{Length}
-use Rattle.meaning.specs.declared.Length.TheVariants as lengthCase
+use Rattle.meaning.specs.declared.Length.TheVariants as LengthCase
 use Rattle.meaning.specs.declared.Audit.{Audit}
-use Rattle.meaning.specs.declared.Audit.TheVariants as auditCase
+use Rattle.meaning.specs.declared.Audit.TheVariants as AuditCase
 use Rattle.meaning.specs.declared.Created.{Created}
-use Rattle.meaning.specs.declared.Created.TheVariants as createdCase
+use Rattle.meaning.specs.declared.Created.TheVariants as CreatedCase
 use Rattle.meaning.specs.declared.Changed.{Changed}
-use Rattle.meaning.specs.declared.Changed.TheVariants as changedCase
+use Rattle.meaning.specs.declared.Changed.TheVariants as ChangedCase
 use Rattle.meaning.specs.declared.Finished.{Finished}
-use Rattle.meaning.specs.declared.Finished.TheVariants as finishedCase
+use Rattle.meaning.specs.declared.Finished.TheVariants as FinishedCase
 use Rattle.meaning.specs.declared.Leaf.{Leaf}
-use Rattle.meaning.specs.declared.Leaf.TheVariants as leafCase
+use Rattle.meaning.specs.declared.Leaf.TheVariants as LeafCase
 use Rattle.answers.specs.Numbers.{value_numbers, refusal_numbers, numbers}
 
 -- a named slot as a number
@@ -42,55 +42,55 @@ put_refusal r s e = rw e
 -- each answer's numbers
 module _ (a : List ℕ) where
   module _ (x : Created) where
-    pub created_at : (s : ℕ) → x ≡ createdCase.At s → a ≡ value_numbers s 0 → a ≡ numbers (created_said x)
+    pub created_at : (s : ℕ) → x ≡ CreatedCase.At s → a ≡ value_numbers s 0 → a ≡ numbers (created_said x)
     unfolding numbers created_said
     created_at s e ea = rw e ea
 
-    pub created_refused : (r : Refusal) → x ≡ createdCase.Refused r → a ≡ refusal_numbers r → a ≡ numbers (created_said x)
+    pub created_refused : (r : Refusal) → x ≡ CreatedCase.Refused r → a ≡ refusal_numbers r → a ≡ numbers (created_said x)
     unfolding numbers created_said
     created_refused r e ea = rw e ea
 
   module _ (x : Changed) where
-    pub changed_done : x ≡ changedCase.Done → a ≡ value_numbers 0 0 → a ≡ numbers (changed_said x)
+    pub changed_done : x ≡ ChangedCase.Done → a ≡ value_numbers 0 0 → a ≡ numbers (changed_said x)
     unfolding numbers changed_said
     changed_done e ea = rw e ea
 
-    pub changed_refused : (r : Refusal) → x ≡ changedCase.Refused r → a ≡ refusal_numbers r → a ≡ numbers (changed_said x)
+    pub changed_refused : (r : Refusal) → x ≡ ChangedCase.Refused r → a ≡ refusal_numbers r → a ≡ numbers (changed_said x)
     unfolding numbers changed_said
     changed_refused r e ea = rw e ea
 
   module _ (x : Finished) where
-    pub finished_done : x ≡ finishedCase.Done → a ≡ value_numbers 0 0 → a ≡ numbers (finished_said x)
+    pub finished_done : x ≡ FinishedCase.Done → a ≡ value_numbers 0 0 → a ≡ numbers (finished_said x)
     unfolding numbers finished_said
     finished_done e ea = rw e ea
 
-    pub finished_refused : (r : Refusal) → x ≡ finishedCase.Refused r → a ≡ refusal_numbers r → a ≡ numbers (finished_said x)
+    pub finished_refused : (r : Refusal) → x ≡ FinishedCase.Refused r → a ≡ refusal_numbers r → a ≡ numbers (finished_said x)
     unfolding numbers finished_said
     finished_refused r e ea = rw e ea
 
   module _ (x : Length) where
-    pub length_is : (n : ℕ) → x ≡ lengthCase.Is n → a ≡ value_numbers n 0 → a ≡ numbers (length_said x)
+    pub length_is : (n : ℕ) → x ≡ LengthCase.Is n → a ≡ value_numbers n 0 → a ≡ numbers (length_said x)
     unfolding numbers length_said
     length_is n e ea = rw e ea
 
-    pub length_refused : (r : Refusal) → x ≡ lengthCase.Refused r → a ≡ refusal_numbers r → a ≡ numbers (length_said x)
+    pub length_refused : (r : Refusal) → x ≡ LengthCase.Refused r → a ≡ refusal_numbers r → a ≡ numbers (length_said x)
     unfolding numbers length_said
     length_refused r e ea = rw e ea
 
   module _ (x : Leaf) where
-    pub leaf_at_lem : (start count : ℕ) → x ≡ leafCase.At start count → a ≡ value_numbers start count → a ≡ numbers (leaf_said x)
+    pub leaf_at_lem : (start count : ℕ) → x ≡ LeafCase.At start count → a ≡ value_numbers start count → a ≡ numbers (leaf_said x)
     unfolding numbers leaf_said
     leaf_at_lem start count e ea = rw e ea
 
-    pub leaf_refused : (r : Refusal) → x ≡ leafCase.Refused r → a ≡ refusal_numbers r → a ≡ numbers (leaf_said x)
+    pub leaf_refused : (r : Refusal) → x ≡ LeafCase.Refused r → a ≡ refusal_numbers r → a ≡ numbers (leaf_said x)
     unfolding numbers leaf_said
     leaf_refused r e ea = rw e ea
 
   module _ (x : Audit) where
-    pub audit_live : (n : ℕ) → x ≡ auditCase.Live n → a ≡ value_numbers n 0 → a ≡ numbers (audit_said x)
+    pub audit_live : (n : ℕ) → x ≡ AuditCase.Live n → a ≡ value_numbers n 0 → a ≡ numbers (audit_said x)
     unfolding numbers audit_said
     audit_live n e ea = rw e ea
 
-    pub audit_refused : (r : Refusal) → x ≡ auditCase.Refused r → a ≡ refusal_numbers r → a ≡ numbers (audit_said x)
+    pub audit_refused : (r : Refusal) → x ≡ AuditCase.Refused r → a ≡ refusal_numbers r → a ≡ numbers (audit_said x)
     unfolding numbers audit_said
     audit_refused r e ea = rw e ea

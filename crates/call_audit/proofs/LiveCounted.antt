@@ -15,7 +15,7 @@ use Rattle.meaning.specs.Answers.{audit_answer}
 use Rattle.meaning.specs.declared.Edition.{Edition}
 use Rattle.meaning.specs.declared.Refusal.{Refusal}
 use Rattle.meaning.specs.declared.Audit.{Audit}
-use Rattle.meaning.specs.declared.Audit.TheVariants as auditCase
+use Rattle.meaning.specs.declared.Audit.TheVariants as AuditCase
 use Rattle.laws.proofs.Ranges.{filter_append, left_all, left_step, left_none}
 use Rattle.laws.proofs.Codec.{state_is}
 use Rattle.check_gate.specs.declared.Opened.{Opened}
@@ -31,7 +31,7 @@ use Rattle.call_audit.specs.Counting.{live_from}
 
 -- refusals 1 and 2, or what is answered behind them
 module _ (e : Edition) (P R : List ℕ) (x : Opened) (ex : x ≡ gate e P R) where
-  pub audit_barred : (q : Refusal) → x ≡ Refused q → auditCase.Refused q ≡ audit_answer (audit_call e P R)
+  pub audit_barred : (q : Refusal) → x ≡ Refused q → AuditCase.Refused q ≡ audit_answer (audit_call e P R)
   unfolding audit_answer audit_call
   audit_barred q eq = sym (ap audit_answer (gate_barred e P R x ex q eq (audit_in e (slots_in e P) P R)))
 
@@ -41,11 +41,11 @@ module _ (e : Edition) (P R : List ℕ) (x : Opened) (ex : x ≡ gate e P R) whe
 
 -- the pool check: its fault, or the count
 module _ (e : Edition) (n : ℕ) (P R : List ℕ) (named : ℕ) (o : List ℕ) (w : Walked) (sx ox : List ℕ) (ew : met w sx ox ≡ pool_noted e n P R named o) where
-  pub audit_fault : (f : Refusal) → w ≡ Fault f → auditCase.Refused f ≡ audit_answer (audit_in e n P R)
+  pub audit_fault : (f : Refusal) → w ≡ Fault f → AuditCase.Refused f ≡ audit_answer (audit_in e n P R)
   unfolding met pool_noted audit_answer audit_in after_check
   audit_fault f ef = rw (noted_fault (note_named named (kept 0 0 o)) f (pool_check e n P R) (rw ef at ew))
 
-  pub audit_live : (b k : ℕ) → w ≡ Fine b k → (m : ℕ) → m ≡ live_from R 0 n → auditCase.Live m ≡ audit_answer (audit_in e n P R)
+  pub audit_live : (b k : ℕ) → w ≡ Fine b k → (m : ℕ) → m ≡ live_from R 0 n → AuditCase.Live m ≡ audit_answer (audit_in e n P R)
   unfolding met pool_noted audit_answer audit_in after_check audit_on live live_from
   audit_live b k eb m em =
       let q = noted_fine (note_named named (kept 0 0 o)) (record { bytes = b; leaves = k; row = ox }) sx (pool_check e n P R) (rw eb at ew) in
@@ -72,11 +72,11 @@ module _ (R : List ℕ) (n i live : ℕ) (inv : live + live_from R i (n - i) ≡
     where
       first_and_rest : live_from R i (n - i) ≡ live_from R i 1 + live_from R (i + 1) (n - (i + 1))
       first_and_rest =
-          let isLive : ℕ → Bool = λ s. not (eqb (state R s) 0) in
+          let is_live : ℕ → Bool = λ s. not (eqb (state R s) 0) in
           let rest = range (i + 1) (n - (i + 1)) in
           unfold live_from range in
-          ap (λ (l : List ℕ). length (filter isLive l)) (left_step i n l) ∙ ap length (filter_append isLive (i ∷ []) rest)
-          ∙ length-append (filter isLive (i ∷ [])) (filter isLive rest)
+          ap (λ (l : List ℕ). length (filter is_live l)) (left_step i n l) ∙ ap length (filter_append is_live (i ∷ []) rest)
+          ∙ length-append (filter is_live (i ∷ [])) (filter is_live rest)
 
   pub live_end : n ≤ i → live ≡ live_from R 0 n
   unfolding live_from filter

@@ -8,7 +8,7 @@ use Rattle.meaning.specs.Answers.{create_answer, Ends}
 use Rattle.meaning.specs.declared.Edition.{Edition}
 use Rattle.meaning.specs.declared.Refusal.{Refusal}
 use Rattle.meaning.specs.declared.Created.{Created}
-use Rattle.meaning.specs.declared.Created.TheVariants as createdCase
+use Rattle.meaning.specs.declared.Created.TheVariants as CreatedCase
 use Rattle.check_gate.specs.Gate.{Whole, gate}
 use Rattle.check_gate.specs.declared.Opened.{Opened}
 use Rattle.check_gate.specs.declared.Opened.TheVariants.{Slots, Refused}
@@ -20,7 +20,7 @@ use Rattle.check_blob.proofs.notes.Answering.{noted_fault, noted_fine}
 use Rattle.check_pool.specs.roots.{note_named, kept, pool_noted}
 
 module _ (e : Edition) (P R : List ℕ) (x : Opened) (ex : x ≡ gate e P R) where
-  pub create_barred : (q : Refusal) → x ≡ Refused q → Ends e create_answer (create_call e P R) P R (createdCase.Refused q) P R
+  pub create_barred : (q : Refusal) → x ≡ Refused q → Ends e create_answer (create_call e P R) P R (CreatedCase.Refused q) P R
   unfolding create_call create_answer after
   create_barred q eq =
       let u = gate_barred e P R x ex q eq (create_in e (slots_in e P) P R) in
@@ -37,7 +37,7 @@ module _ (e : Edition) (P R : List ℕ) (x : Opened) (ex : x ≡ gate e P R) whe
 
 -- the pool check
 module _ (e : Edition) (n : ℕ) (P R : List ℕ) (named : ℕ) (o : List ℕ) (w : Walked) (sx ox : List ℕ) (ew : met w sx ox ≡ pool_noted e n P R named o) where
-  pub create_fault : (f : Refusal) → w ≡ Fault f → Ends e create_answer (create_in e n P R) P R (createdCase.Refused f) P R
+  pub create_fault : (f : Refusal) → w ≡ Fault f → Ends e create_answer (create_in e n P R) P R (CreatedCase.Refused f) P R
   unfolding met pool_noted create_in after_check create_answer after
   create_fault f ef =
       let u = noted_fault (note_named named (kept 0 0 o)) f (pool_check e n P R) (rw ef at ew) in

@@ -13,7 +13,7 @@ use Rattle.meaning.specs.Calls.{done, slots_in, become, delete_on, delete_in, de
 use Rattle.meaning.specs.Answers.{change_answer, Ends}
 use Rattle.meaning.specs.declared.Edition.{Edition}
 use Rattle.meaning.specs.declared.Refusal.{Refusal}
-use Rattle.meaning.specs.declared.Changed.TheVariants as changedCase
+use Rattle.meaning.specs.declared.Changed.TheVariants as ChangedCase
 use Rattle.laws.proofs.Inversions.{by_test}
 use Rattle.laws_resize.proofs.growth.Changes.{held_at, held_absent}
 use Rattle.check_gate.specs.Gate.{Whole}
@@ -48,13 +48,13 @@ module _ (e : Edition) (p : Proper e) (n : ℕ) (P R : List ℕ) (r len k : ℕ)
   outcome = known_changing e n P R r len k row hs fs g (delete_on e n P R) ∙ ap (λ (cs : List Change). done tt cs) all_same
 
   ends : (P' R' : List ℕ) → P' ≡ puts e.size (λ c. c.block) (over (clear_plan e R hs) 0 n) P → R' ≡ puts 12 (λ c. c.line) (over (clear_plan e R hs) 0 n) R
-      → Ends e change_answer (delete_in e n P R r) P R changedCase.Done P' R'
+      → Ends e change_answer (delete_in e n P R r) P R ChangedCase.Done P' R'
   unfolding change_answer after changed_by
   ends P' R' ep er = record { answer = rw outcome; pool = ep ∙ rw outcome; records = er ∙ rw outcome }
 
 -- what is reached decides
 module _ (e : Edition) (P R : List ℕ) (r : ℕ) (y : Reached) (row hs fs : List ℕ) (h : Reaches e P R r y row hs fs) where
-  pub delete_refused : (q : Refusal) → y ≡ reached.Refused q → Ends e change_answer (delete_call e P R r) P R (changedCase.Refused q) P R
+  pub delete_refused : (q : Refusal) → y ≡ reached.Refused q → Ends e change_answer (delete_call e P R r) P R (ChangedCase.Refused q) P R
   unfolding delete_call delete_in
   delete_refused q eq = refused_so e P R r y row hs fs h q eq (delete_on e (slots_in e P) P R)
 
@@ -69,7 +69,7 @@ module _ (e : Edition) (P R : List ℕ) (r : ℕ) (y : Reached) (row hs fs : Lis
     delete_heights = here.known.heights
 
     pub delete_done : Proper e → (P' R' : List ℕ) → P' ≡ puts e.size (λ c. c.block) (over (clear_plan e R (front n hs)) 0 n) P
-        → R' ≡ puts 12 (λ c. c.line) (over (clear_plan e R (front n hs)) 0 n) R → Ends e change_answer (delete_call e P R r) P R changedCase.Done P' R'
+        → R' ≡ puts 12 (λ c. c.line) (over (clear_plan e R (front n hs)) 0 n) R → Ends e change_answer (delete_call e P R r) P R ChangedCase.Done P' R'
     unfolding delete_call
     delete_done p P' R' ep er =
         rw (reached_opened e P R r y row hs fs h n len k ey (λ m. delete_in e m P R r))

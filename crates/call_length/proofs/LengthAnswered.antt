@@ -7,7 +7,7 @@ use Rattle.meaning.specs.Answers.{length_answer}
 use Rattle.meaning.specs.declared.Edition.{Edition}
 use Rattle.meaning.specs.declared.Refusal.{Refusal}
 use Rattle.meaning.specs.declared.Length.{Length}
-use Rattle.meaning.specs.declared.Length.TheVariants as lengthCase
+use Rattle.meaning.specs.declared.Length.TheVariants as LengthCase
 use Rattle.check_gate.specs.declared.Opened.{Opened}
 use Rattle.check_gate.specs.declared.Opened.TheVariants.{Slots, Refused}
 use Rattle.check_gate.specs.Gate.{gate}
@@ -20,7 +20,7 @@ use Rattle.check_blob.proofs.Opening.{open_fault, open_found, open_reads}
 
 -- refusals 1 and 2, or what is answered behind them
 module _ (e : Edition) (P R : List ℕ) (x : Opened) (ex : x ≡ gate e P R) (r : ℕ) where
-  pub length_barred : (q : Refusal) → x ≡ Refused q → lengthCase.Refused q ≡ length_answer (length_call e P R r)
+  pub length_barred : (q : Refusal) → x ≡ Refused q → LengthCase.Refused q ≡ length_answer (length_call e P R r)
   unfolding length_answer length_call
   length_barred q eq = sym (ap length_answer (gate_barred e P R x ex q eq (length_in e (slots_in e P) P R r)))
 
@@ -30,12 +30,12 @@ module _ (e : Edition) (P R : List ℕ) (x : Opened) (ex : x ≡ gate e P R) (r 
 
 -- refusal 3 and the blob check: the refusal, or the blob's bytes
 module _ (e : Edition) (n : ℕ) (P R : List ℕ) (r : ℕ) (o : List ℕ) (w : Walked) (sx ox : List ℕ) (ew : met w sx ox ≡ open_noted e n P R r o) where
-  pub length_refused : (f : Refusal) → w ≡ Fault f → lengthCase.Refused f ≡ length_answer (length_in e n P R r)
+  pub length_refused : (f : Refusal) → w ≡ Fault f → LengthCase.Refused f ≡ length_answer (length_in e n P R r)
   unfolding length_answer length_in
   length_refused f ef = rw (open_fault e n P R r o w sx ox ew f ef (length_on e n P R))
 
-  pub length_found : (b k : ℕ) → w ≡ Fine b k → lengthCase.Is b ≡ length_answer (length_in e n P R r)
+  pub length_found : (b k : ℕ) → w ≡ Fine b k → LengthCase.Is b ≡ length_answer (length_in e n P R r)
   unfolding length_answer length_in length_on
   length_found b k eb =
-      ap lengthCase.Is (open_found e n P R r o w sx ox ew b k eb).bytes
+      ap LengthCase.Is (open_found e n P R r o w sx ox ew b k eb).bytes
       ∙ sym (ap length_answer (open_reads e n P R r o w sx ox ew b k eb (length_on e n P R)))

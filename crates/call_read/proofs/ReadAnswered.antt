@@ -15,7 +15,7 @@ use Rattle.meaning.specs.Answers.{finish_answer, read_out, Reads}
 use Rattle.meaning.specs.declared.Edition.{Edition}
 use Rattle.meaning.specs.declared.Refusal.{Refusal}
 use Rattle.meaning.specs.declared.Finished.{Finished}
-use Rattle.meaning.specs.declared.Finished.TheVariants as finishedCase
+use Rattle.meaning.specs.declared.Finished.TheVariants as FinishedCase
 use Rattle.check_gate.specs.declared.Opened.{Opened}
 use Rattle.check_gate.specs.declared.Opened.TheVariants.{Slots, Refused}
 use Rattle.check_gate.specs.Gate.{gate, Whole}
@@ -30,7 +30,7 @@ use Rattle.call_read.proofs.Spelt.{row_bytes, row_readable, read_spelt_lem}
 
 -- refusals 1 and 2, or what is answered behind them
 module _ (e : Edition) (P R : List ℕ) (x : Opened) (ex : x ≡ gate e P R) (r offset size : ℕ) where
-  pub read_barred : (q : Refusal) → x ≡ Refused q → (out : List ℕ) → Reads (read_call e P R r offset size) (finishedCase.Refused q) out out
+  pub read_barred : (q : Refusal) → x ≡ Refused q → (out : List ℕ) → Reads (read_call e P R r offset size) (FinishedCase.Refused q) out out
   unfolding finish_answer read_out read_call
   read_barred q eq out =
       let u = gate_barred e P R x ex q eq (read_in e (slots_in e P) P R r offset size) in
@@ -45,7 +45,7 @@ module _ (e : Edition) (P R : List ℕ) (x : Opened) (ex : x ≡ gate e P R) (r 
 -- refusal 3 and the blob check: the refusal, or the read of what the row spells
 module _ (e : Edition) (n : ℕ) (P R : List ℕ) (r : ℕ) (o : List ℕ) (w : Walked) (sx ox : List ℕ) (ew : met w sx ox ≡ open_noted e n P R r o) where
   module _ (f : Refusal) (ef : w ≡ Fault f) where
-    pub read_refused : (offset size : ℕ) (out : List ℕ) → Reads (read_in e n P R r offset size) (finishedCase.Refused f) out out
+    pub read_refused : (offset size : ℕ) (out : List ℕ) → Reads (read_in e n P R r offset size) (FinishedCase.Refused f) out out
     unfolding finish_answer read_out read_in
     read_refused offset size out =
         let u = open_fault e n P R r o w sx ox ew f ef (read_on e n P R offset size) in
@@ -73,19 +73,19 @@ module _ (e : Edition) (n : ℕ) (P R : List ℕ) (r : ℕ) (o : List ℕ) (w : 
 
 -- refusal 10 of a read
 module _ (offset size : ℕ) (c out : List ℕ) (b : ℕ) (eb : b ≡ length c) where
-  past : b < offset + size → (q : Refusal) → q ≡ nowhere 10 → Reads (read_spelt offset size c) (finishedCase.Refused q) out out
+  past : b < offset + size → (q : Refusal) → q ≡ nowhere 10 → Reads (read_spelt offset size c) (FinishedCase.Refused q) out out
   unfolding read_spelt refuse_if finish_answer read_out
   past l q eq =
       let t : ltb (length c) (offset + size) ≡ true = lt-ltb (length c) (offset + size) (omega arith) in
       record { answer = rw (eq, t); output = rw t }
 
-  pub read_before : b < offset → (q : Refusal) → q ≡ nowhere 10 → Reads (read_spelt offset size c) (finishedCase.Refused q) out out
+  pub read_before : b < offset → (q : Refusal) → q ≡ nowhere 10 → Reads (read_spelt offset size c) (FinishedCase.Refused q) out out
   read_before l q eq = past (omega arith) q eq
 
-  pub read_past : offset ≤ b → b - offset < size → (q : Refusal) → q ≡ nowhere 10 → Reads (read_spelt offset size c) (finishedCase.Refused q) out out
+  pub read_past : offset ≤ b → b - offset < size → (q : Refusal) → q ≡ nowhere 10 → Reads (read_spelt offset size c) (FinishedCase.Refused q) out out
   read_past l m q eq = past (omega arith) q eq
 
-  pub read_within : offset ≤ b → size ≤ b - offset → (out' : List ℕ) → out' ≡ part offset size c → Reads (read_spelt offset size c) finishedCase.Done out out'
+  pub read_within : offset ≤ b → size ≤ b - offset → (out' : List ℕ) → out' ≡ part offset size c → Reads (read_spelt offset size c) FinishedCase.Done out out'
   unfolding read_spelt refuse_if finish_answer read_out
   read_within l m out' eo =
       let t : ltb (length c) (offset + size) ≡ false = le-ltb (length c) (offset + size) (omega arith) in

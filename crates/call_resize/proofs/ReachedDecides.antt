@@ -9,7 +9,7 @@ use Rattle.meaning.specs.Answers.{change_answer, Ends}
 use Rattle.meaning.specs.declared.Edition.{Edition}
 use Rattle.meaning.specs.declared.Refusal.{Refusal}
 use Rattle.meaning.specs.declared.Changed.{Changed}
-use Rattle.meaning.specs.declared.Changed.TheVariants as changedCase
+use Rattle.meaning.specs.declared.Changed.TheVariants as ChangedCase
 use Rattle.check_gate.specs.Gate.{Whole, gate}
 use Rattle.check_blob.proofs.Lending.{row_lent}
 use Rattle.call_resize.specs.fit.Found.{Found}
@@ -19,7 +19,7 @@ use Rattle.check_survey.specs.Reached.{Rows, front, Behind, Reaches}
 use Rattle.check_survey.proofs.BehindTheSurvey.{refused_so, reached_blob, reached_opened}
 
 module _ (e : Edition) (P R : List ℕ) (r : ℕ) (y : Reached) (row hs fs : List ℕ) (h : Reaches e P R r y row hs fs) where
-  pub resize_refused : (q : Refusal) → y ≡ reached.Refused q → (len : ℕ) → Ends e change_answer (resize_call e P R r len) P R (changedCase.Refused q) P R
+  pub resize_refused : (q : Refusal) → y ≡ reached.Refused q → (len : ℕ) → Ends e change_answer (resize_call e P R r len) P R (ChangedCase.Refused q) P R
   unfolding resize_call resize_in
   resize_refused q eq len = refused_so e P R r y row hs fs h q eq (resize_on e (slots_in e P) P R len)
 

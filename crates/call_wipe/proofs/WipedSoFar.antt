@@ -16,7 +16,7 @@ use Rattle.meaning.specs.Calls.{slots_in, sized, free_records, wiped, after_wipe
 use Rattle.meaning.specs.Answers.{wipe_answer, Wipes}
 use Rattle.meaning.specs.declared.Edition.{Edition}
 use Rattle.meaning.specs.declared.Refusal.{Refusal}
-use Rattle.meaning.specs.declared.Finished.TheVariants as finishedCase
+use Rattle.meaning.specs.declared.Finished.TheVariants as FinishedCase
 use Rattle.laws.proofs.Codec.{record_length}
 use Rattle.laws.proofs.Building.{take_pasted_to}
 use Rattle.check_gate.proofs.BehindTheGate.{sized_whole}
@@ -55,12 +55,12 @@ free_start R = refl
 
 -- the lengths decide
 module _ (e : Edition) (P R : List ℕ) (s : Bool) (es : s ≡ sized e P R) where
-  pub wipe_lengths : not s ≡ true → (q : Refusal) → q ≡ nowhere 1 → Wipes e P R (finishedCase.Refused q) P R
+  pub wipe_lengths : not s ≡ true → (q : Refusal) → q ≡ nowhere 1 → Wipes e P R (FinishedCase.Refused q) P R
   unfolding wipe_answer after_wipe pick
   wipe_lengths t q eq =
       record { answer = rw eq (simp (← es, not-true s t)); pool = simp (← es, not-true s t); records = simp (← es, not-true s t) }
 
-  pub wipe_done : not s ≡ false → (P' R' : List ℕ) → P' ≡ replicate (length P) 0 → R' ≡ free_records (length P / e.size) → Wipes e P R finishedCase.Done P' R'
+  pub wipe_done : not s ≡ false → (P' R' : List ℕ) → P' ≡ replicate (length P) 0 → R' ≡ free_records (length P / e.size) → Wipes e P R FinishedCase.Done P' R'
   unfolding wipe_answer after_wipe wiped pick slots_in
   wipe_done t P' R' ep er =
       let w : length P ≡ e.size * (length P / e.size) = (sized_whole e P R (sym es ∙ not-false s t)).pool in

@@ -9,7 +9,7 @@ use lib.ListN.{length}
 use Rattle.meaning.specs.declared.Edition.{Edition}
 use Rattle.meaning.specs.declared.Refusal.{Refusal}
 use Rattle.meaning.specs.declared.Changed.{Changed}
-use Rattle.meaning.specs.declared.Changed.TheVariants as changedCase
+use Rattle.meaning.specs.declared.Changed.TheVariants as ChangedCase
 use Rattle.meaning.specs.Lists.{pick}
 use Rattle.meaning.specs.Edition.{Proper}
 use Rattle.meaning.specs.Tree.{length_of}
@@ -57,7 +57,7 @@ module _ (e : Edition) (p : Proper e) (n : ℕ) (P R : List ℕ) (r len k : ℕ)
 -- what is reached decides
 module _ (e : Edition) (P R : List ℕ) (r : ℕ) (y : Reached) (row hs fs : List ℕ) (h : Reaches e P R r y row hs fs) where
   pub write_refused : (q : Refusal) → y ≡ reached.Refused q → (offset : ℕ) (d : List ℕ)
-      → Ends e change_answer (write_call e P R r offset d) P R (changedCase.Refused q) P R
+      → Ends e change_answer (write_call e P R r offset d) P R (ChangedCase.Refused q) P R
   unfolding write_call write_in
   write_refused q eq offset d = refused_so e P R r y row hs fs h q eq (write_on e (slots_in e P) P R offset d)
 

@@ -13,7 +13,7 @@ use Rattle.meaning.specs.Calls.{Outcome, refused, changing, slots_in, opened, af
 use Rattle.meaning.specs.Answers.{change_answer, Ends}
 use Rattle.meaning.specs.declared.Edition.{Edition}
 use Rattle.meaning.specs.declared.Refusal.{Refusal}
-use Rattle.meaning.specs.declared.Changed.TheVariants as changedCase
+use Rattle.meaning.specs.declared.Changed.TheVariants as ChangedCase
 use Rattle.check_gate.specs.Gate.{gate}
 use Rattle.check_gate.specs.declared.Opened.{Opened}
 use Rattle.check_gate.specs.declared.Opened.TheVariants.{Slots, Refused}
@@ -87,7 +87,7 @@ module _ (e : Edition) (P R : List ℕ) (x : Opened) (ex : x ≡ gate e P R) (r 
 module _ (e : Edition) (P R : List ℕ) (r : ℕ) (y : Reached) (row hs fs : List ℕ) (h : Reaches e P R r y row hs fs) where
   -- a refusal, of any call, with nothing changed
   pub refused_so : (q : Refusal) → y ≡ reached.Refused q → (f : Blob → Outcome (Unit {0}))
-      → Ends e change_answer (opened e P R (changing e (slots_in e P) P R r f)) P R (changedCase.Refused q) P R
+      → Ends e change_answer (opened e P R (changing e (slots_in e P) P R r f)) P R (ChangedCase.Refused q) P R
   unfolding Reaches change_answer after
   refused_so q eq f =
       let u : (g : Blob → Outcome (Unit {0})) → opened e P R (changing e (slots_in e P) P R r g) ≡ refused q = rw eq at h in

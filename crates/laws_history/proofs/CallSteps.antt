@@ -229,6 +229,6 @@ call_steps e p N few S is c = on c
     on (run.write r offset d) = call (λ k. write_in e k S.pool S.records r offset d) (write_steps e N small S is r offset d)
     on (run.resize r len) = call (λ k. resize_in e k S.pool S.records r len) (resize_steps e N small S is r len)
     on (run.delete r) = call (λ k. delete_in e k S.pool S.records r) (delete_steps e N small S is r)
-    on (run.tellLength r) = call (λ k. length_in e k S.pool S.records r) (length_steps e N small S is r)
+    on (run.tell_length r) = call (λ k. length_in e k S.pool S.records r) (length_steps e N small S is r)
     on (run.read r offset size) = call (λ k. read_in e k S.pool S.records r offset size) (read_steps e N small S is r offset size)
     on (run.show_leaf r k) = call (λ n. show_in e n S.pool S.records r k) (show_steps e N small S is r k)

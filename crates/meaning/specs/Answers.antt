@@ -7,39 +7,39 @@ use Rattle.meaning.specs.declared.Edition.{Edition}
 use Rattle.meaning.specs.declared.Named.TheVariants.{Nowhere}
 use Rattle.meaning.specs.declared.Refusal.{Refusal}
 use Rattle.meaning.specs.declared.Length.{Length}
-use Rattle.meaning.specs.declared.Length.TheVariants as lengthCase
+use Rattle.meaning.specs.declared.Length.TheVariants as LengthCase
 use Rattle.meaning.specs.declared.Audit.{Audit}
-use Rattle.meaning.specs.declared.Audit.TheVariants as auditCase
+use Rattle.meaning.specs.declared.Audit.TheVariants as AuditCase
 use Rattle.meaning.specs.declared.Created.{Created}
-use Rattle.meaning.specs.declared.Created.TheVariants as createdCase
+use Rattle.meaning.specs.declared.Created.TheVariants as CreatedCase
 use Rattle.meaning.specs.declared.Changed.{Changed}
-use Rattle.meaning.specs.declared.Changed.TheVariants as changedCase
+use Rattle.meaning.specs.declared.Changed.TheVariants as ChangedCase
 use Rattle.meaning.specs.declared.Finished.{Finished}
-use Rattle.meaning.specs.declared.Finished.TheVariants as finishedCase
+use Rattle.meaning.specs.declared.Finished.TheVariants as FinishedCase
 use Rattle.meaning.specs.declared.Leaf.{Leaf}
-use Rattle.meaning.specs.declared.Leaf.TheVariants as leafCase
+use Rattle.meaning.specs.declared.Leaf.TheVariants as LeafCase
 
 unfoldable pub length_answer : Outcome ℕ → Length
-length_answer (refused r) = lengthCase.Refused r
-length_answer (done n cs) = lengthCase.Is n
+length_answer (refused r) = LengthCase.Refused r
+length_answer (done n cs) = LengthCase.Is n
 
 unfoldable pub audit_answer : Outcome ℕ → Audit
-audit_answer (refused r) = auditCase.Refused r
-audit_answer (done n cs) = auditCase.Live n
+audit_answer (refused r) = AuditCase.Refused r
+audit_answer (done n cs) = AuditCase.Live n
 
 unfoldable pub create_answer : Outcome ℕ → Created
-create_answer (refused r) = createdCase.Refused r
-create_answer (done s cs) = createdCase.At s
+create_answer (refused r) = CreatedCase.Refused r
+create_answer (done s cs) = CreatedCase.At s
 
 -- write, resize and delete
 unfoldable pub change_answer : Outcome (Unit {0}) → Changed
-change_answer (refused r) = changedCase.Refused r
-change_answer (done v cs) = changedCase.Done
+change_answer (refused r) = ChangedCase.Refused r
+change_answer (done v cs) = ChangedCase.Done
 
 -- read
 unfoldable pub finish_answer : {A : Type 0} → Outcome A → Finished
-finish_answer (refused r) = finishedCase.Refused r
-finish_answer (done v cs) = finishedCase.Done
+finish_answer (refused r) = FinishedCase.Refused r
+finish_answer (done v cs) = FinishedCase.Done
 
 -- the lent output after a read: filled whole, or untouched
 unfoldable pub read_out : Outcome (List ℕ) → List ℕ → List ℕ
@@ -48,7 +48,7 @@ read_out (done d cs) out = d
 
 -- wipe checks 1 only; what it leaves is after_wipe (Calls)
 unfoldable pub wipe_answer : Edition → (P R : List ℕ) → Finished
-wipe_answer e P R = pick (sized e P R) finishedCase.Done (finishedCase.Refused (nowhere 1))
+wipe_answer e P R = pick (sized e P R) FinishedCase.Done (FinishedCase.Refused (nowhere 1))
 
 -- where in the pool the data bytes of slot s start
 abbrev pub data_start : Edition → (s : ℕ) → ℕ
@@ -56,8 +56,8 @@ data_start e s = e.size * s + 16
 
 -- where a shown leaf's data bytes lie in the pool, and how many they are
 unfoldable pub leaf_answer : Edition → Outcome (ℕ × ℕ) → Leaf
-leaf_answer e (refused r) = leafCase.Refused r
-leaf_answer e (done v cs) = leafCase.At (data_start e v.0) v.1
+leaf_answer e (refused r) = LeafCase.Refused r
+leaf_answer e (done v cs) = LeafCase.At (data_start e v.0) v.1
 
 -- where in the pool show's part starts: at the leaf's data bytes; the empty part of a refusal at the pool's first byte
 unfoldable pub shown_at : Edition → Outcome (ℕ × ℕ) → ℕ
@@ -101,28 +101,28 @@ pub data Said : Type 0 where
   refuses : Refusal → Said
 
 unfoldable pub length_said : Length → Said
-length_said (lengthCase.Is n) = yields (n ∷ [])
-length_said (lengthCase.Refused r) = refuses r
+length_said (LengthCase.Is n) = yields (n ∷ [])
+length_said (LengthCase.Refused r) = refuses r
 
 unfoldable pub audit_said : Audit → Said
-audit_said (auditCase.Live n) = yields (n ∷ [])
-audit_said (auditCase.Refused r) = refuses r
+audit_said (AuditCase.Live n) = yields (n ∷ [])
+audit_said (AuditCase.Refused r) = refuses r
 
 unfoldable pub created_said : Created → Said
-created_said (createdCase.At s) = yields (s ∷ [])
-created_said (createdCase.Refused r) = refuses r
+created_said (CreatedCase.At s) = yields (s ∷ [])
+created_said (CreatedCase.Refused r) = refuses r
 
 unfoldable pub changed_said : Changed → Said
-changed_said changedCase.Done = yields []
-changed_said (changedCase.Refused r) = refuses r
+changed_said ChangedCase.Done = yields []
+changed_said (ChangedCase.Refused r) = refuses r
 
 unfoldable pub finished_said : Finished → Said
-finished_said finishedCase.Done = yields []
-finished_said (finishedCase.Refused r) = refuses r
+finished_said FinishedCase.Done = yields []
+finished_said (FinishedCase.Refused r) = refuses r
 
 unfoldable pub leaf_said : Leaf → Said
-leaf_said (leafCase.At start count) = yields (start ∷ count ∷ [])
-leaf_said (leafCase.Refused r) = refuses r
+leaf_said (LeafCase.At start count) = yields (start ∷ count ∷ [])
+leaf_said (LeafCase.Refused r) = refuses r
 
 -- the same, and after its values the bytes that the call hands out
 unfoldable pub said_with : Said → (bytes : List ℕ) → Said

@@ -13,7 +13,7 @@ use Rattle.meaning.specs.Resize.{lowest, chain, on_last, roomy, hang, raised, ad
 use Rattle.meaning.specs.Calls.{refuse_if, after_check, slots_in, sized, refuse_bad_record, opened, with_blob, usable, live, rooted, reading, changing, refuse_worn, refuse_past, refuse_full, become, length_on, length_in, read_on, read_in, audit_on, audit_in, create_on, create_in, new_blocks, resize_on, resize_in, write_on, write_in, length_call, read_call, audit_call, create_call, write_call, resize_call, after, free_records, wiped}
 use Rattle.meaning.specs.Answers.{Said, yields, refuses, length_answer, audit_answer, create_answer, change_answer, finish_answer, read_out}
 use Rattle.meaning.specs.Answers.{length_said, audit_said, created_said, changed_said, finished_said, said_with}
-use Rattle.meaning.specs.Run.{Call, create, audit, write, resize, tellLength, read, says, perform}
+use Rattle.meaning.specs.Run.{Call, create, audit, write, resize, tell_length, read, says, perform}
 use Rattle.meaning.specs.Head.{Head, head_at, head_of, open_head, block_at, child_at, below, height_at, byte_at, piece, handed, handed_out, moved, pieces}
 use Rattle.meaning.specs.declared.Named.{Named}
 use Rattle.meaning.specs.declared.Named.TheVariants.{Nowhere, Slot}
@@ -209,17 +209,17 @@ refusals =
     -- a live record of version 0
     ∷ refusal (beside (empty 0) (record_of 2 0)) audit 2 (Slot 0)
     -- slot 1 is free
-    ∷ refusal (beside (empty 1) (record_of 2 1)) (tellLength 1) 3 Nowhere
+    ∷ refusal (beside (empty 1) (record_of 2 1)) (tell_length 1) 3 Nowhere
     -- another mark
-    ∷ refusal (beside (set (empty 1) 0 0x4d) (record_of 2 1)) (tellLength 0) 4 (Slot 0)
+    ∷ refusal (beside (set (empty 1) 0 0x4d) (record_of 2 1)) (tell_length 0) 4 (Slot 0)
     -- a block of slot 1
-    ∷ refusal (beside (set (empty 1) 4 1) (record_of 2 1)) (tellLength 0) 5 (Slot 0)
+    ∷ refusal (beside (set (empty 1) 4 1) (record_of 2 1)) (tell_length 0) 5 (Slot 0)
     -- an older copy
-    ∷ refusal (beside (empty 1) (record_of 2 2)) (tellLength 0) 6 (Slot 0)
+    ∷ refusal (beside (empty 1) (record_of 2 2)) (tell_length 0) 6 (Slot 0)
     -- a newer one
-    ∷ refusal (beside (empty 2) (record_of 2 1)) (tellLength 0) 7 (Slot 0)
+    ∷ refusal (beside (empty 2) (record_of 2 1)) (tell_length 0) 7 (Slot 0)
     -- a stale byte after the count
-    ∷ refusal (beside (set (empty 1) 16 7) (record_of 2 1)) (tellLength 0) 8 (Slot 0)
+    ∷ refusal (beside (set (empty 1) 16 7) (record_of 2 1)) (tell_length 0) 8 (Slot 0)
     -- an old block in a free slot
     ∷ refusal (two (empty 1) (record_of 2 1) (empty 1) (record_of 0 1)) audit 9 (Slot 1)
     -- a byte past the end of an empty blob
@@ -247,16 +247,16 @@ sharing =
 unfoldable pub links : List Case
 links =
     -- no slot of the pool; the parent is a part here, so that it is not the root that is named
-    refusal (holding (inner 0 2 1 2 (1 ∷ 1 ∷ []) ∷ inner 1 1 1 1 (replicate 12 2) ∷ [])) (tellLength 0) 8 (Slot 1)
+    refusal (holding (inner 0 2 1 2 (1 ∷ 1 ∷ []) ∷ inner 1 1 1 1 (replicate 12 2) ∷ [])) (tell_length 0) 8 (Slot 1)
     -- a root
-    ∷ refusal (twice (leaf 1 2 1 full)) (tellLength 0) 8 (Slot 0)
+    ∷ refusal (twice (leaf 1 2 1 full)) (tell_length 0) 8 (Slot 0)
     -- already visited, when the row names it again
-    ∷ refusal (twice (leaf 1 1 1 full)) (tellLength 0) 8 (Slot 0)
+    ∷ refusal (twice (leaf 1 1 1 full)) (tell_length 0) 8 (Slot 0)
     -- free
-    ∷ refusal (twice (free 1 1)) (tellLength 0) 9 (Slot 1)
+    ∷ refusal (twice (free 1 1)) (tell_length 0) 9 (Slot 1)
     -- shared parts: each blob passes its own check, and the pool check names the parent in the blob with the higher root
-    ∷ result sharing (tellLength 0) (49 ∷ [])
-    ∷ result sharing (tellLength 1) (49 ∷ [])
+    ∷ result sharing (tell_length 0) (49 ∷ [])
+    ∷ result sharing (tell_length 1) (49 ∷ [])
     ∷ refusal sharing audit 8 (Slot 1)
     ∷ []
 
@@ -318,10 +318,10 @@ bigger =
     ∷ blocks 995328 22621 ∷ blocks 995329 22627
     ∷ blocks 2883456 65535 ∷ blocks 2883457 65537
     -- a root of height 5 passes check 3, and its first child is no block of height 4; a root of height 6 does not pass
-    ∷ refusal (holding (inner 0 2 1 5 (1 ∷ 1 ∷ []) ∷ leaf 1 1 1 full ∷ [])) (tellLength 0) 8 (Slot 1)
-    ∷ refusal (holding (inner 0 2 1 6 (1 ∷ 1 ∷ []) ∷ leaf 1 1 1 full ∷ [])) (tellLength 0) 8 (Slot 0)
+    ∷ refusal (holding (inner 0 2 1 5 (1 ∷ 1 ∷ []) ∷ leaf 1 1 1 full ∷ [])) (tell_length 0) 8 (Slot 1)
+    ∷ refusal (holding (inner 0 2 1 6 (1 ∷ 1 ∷ []) ∷ leaf 1 1 1 full ∷ [])) (tell_length 0) 8 (Slot 0)
     -- a slot number above 65,535
-    ∷ refusal (holding (inner 0 2 1 1 (1 ∷ 65536 ∷ []) ∷ leaf 1 1 1 full ∷ [])) (tellLength 0) 8 (Slot 0)
+    ∷ refusal (holding (inner 0 2 1 1 (1 ∷ 65536 ∷ []) ∷ leaf 1 1 1 full ∷ [])) (tell_length 0) 8 (Slot 0)
     ∷ []
 
 pub cases_hold : all right (joined (cases ∷ worked ∷ refusals ∷ links ∷ worn ∷ heads ∷ bigger ∷ [])) ≡ true

@@ -13,7 +13,7 @@ pub data Call : Type 0 where
   create audit : Call
   write : (r offset : ℕ) → List ℕ → Call
   resize : (r len : ℕ) → Call
-  delete tellLength : (r : ℕ) → Call
+  delete tell_length : (r : ℕ) → Call
   read : (r offset size : ℕ) → Call
   show_leaf : (r k : ℕ) → Call
 
@@ -25,7 +25,7 @@ says e S audit = audit_said (audit_answer (audit_call e S.pool S.records))
 says e S (write r offset d) = changed_said (change_answer (write_call e S.pool S.records r offset d))
 says e S (resize r len) = changed_said (change_answer (resize_call e S.pool S.records r len))
 says e S (delete r) = changed_said (change_answer (delete_call e S.pool S.records r))
-says e S (tellLength r) = length_said (length_answer (length_call e S.pool S.records r))
+says e S (tell_length r) = length_said (length_answer (length_call e S.pool S.records r))
 says e S (read r offset size) =
     let o = read_call e S.pool S.records r offset size in
     said_with (finished_said (finish_answer o)) (read_out o [])
@@ -40,7 +40,7 @@ perform e S audit = after e S (audit_call e S.pool S.records)
 perform e S (write r offset d) = after e S (write_call e S.pool S.records r offset d)
 perform e S (resize r len) = after e S (resize_call e S.pool S.records r len)
 perform e S (delete r) = after e S (delete_call e S.pool S.records r)
-perform e S (tellLength r) = after e S (length_call e S.pool S.records r)
+perform e S (tell_length r) = after e S (length_call e S.pool S.records r)
 perform e S (read r offset size) = after e S (read_call e S.pool S.records r offset size)
 perform e S (show_leaf r k) = after e S (show_call e S.pool S.records r k)
 
@@ -65,7 +65,7 @@ noted (resize r len) (yields vs) book = (r, len) ∷ without r book
 noted (delete r) (yields vs) book = without r book
 noted audit (yields vs) book = book
 noted (write r offset d) (yields vs) book = book
-noted (tellLength r) (yields vs) book = book
+noted (tell_length r) (yields vs) book = book
 noted (read r offset size) (yields vs) book = book
 noted (show_leaf r k) (yields vs) book = book
 

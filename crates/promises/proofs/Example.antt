@@ -19,7 +19,7 @@ use Rattle.meaning.specs.Resize.{lowest, chain, on_last, roomy, hang, raised, ad
 use Rattle.meaning.specs.Calls.{delete_on, delete_in, delete_call, show_on, show_in, show_call, refuse_if, after_check, slots_in, sized, refuse_bad_record, opened, with_blob, usable, live, rooted, reading, changing, refuse_worn, refuse_past, refuse_full, become, length_on, length_in, read_on, read_in, audit_on, audit_in, create_on, create_in, new_blocks, resize_on, resize_in, write_on, write_in, length_call, read_call, audit_call, create_call, write_call, resize_call, after, free_records, wiped, after_wipe}
 use Rattle.meaning.specs.Answers.{Said, yields, refuses, length_answer, audit_answer, create_answer, change_answer, finish_answer, leaf_answer, read_out, shown_part}
 use Rattle.meaning.specs.Answers.{length_said, audit_said, created_said, changed_said, finished_said, leaf_said, said_with}
-use Rattle.meaning.specs.Run.{Call, create, audit, write, resize, delete, tellLength, read, show_leaf, says, perform, moments, run}
+use Rattle.meaning.specs.Run.{Call, create, audit, write, resize, delete, tell_length, read, show_leaf, says, perform, moments, run}
 use Rattle.meaning.specs.Head.{head_of, open_head, block_at, child_at, below, height_at, byte_at, piece, handed, handed_out, moved, pieces}
 use Rattle.meaning.specs.Cases.{same_said}
 use Rattle.meaning.specs.declared.Edition.{Edition}
@@ -61,12 +61,12 @@ answers =
     -- slot 1's block from before the write, in its own slot
     ∷ same_said (asked (put_back 2 1 1 3) 3 (read 0 0 2)) (refuses (at 6 1))
     -- slot 1's block after the write, for a reader from before it
-    ∷ same_said (asked (put_back 3 1 1 2) 2 (tellLength 0)) (refuses (at 7 1))
+    ∷ same_said (asked (put_back 3 1 1 2) 2 (tell_length 0)) (refuses (at 7 1))
     -- slot 1's block in slot 2
-    ∷ same_said (asked (put_back 3 1 2 3) 3 (tellLength 0)) (refuses (at 5 2))
+    ∷ same_said (asked (put_back 3 1 2 3) 3 (tell_length 0)) (refuses (at 5 2))
     -- slot 3's block, brought back after it went: the audit sees it, and the blob beside it is read as ever
     ∷ same_said (asked (put_back 4 3 3 5) 5 audit) (refuses (at 9 3))
-    ∷ same_said (asked (put_back 4 3 3 5) 5 (tellLength 0)) (yields (49 ∷ []))
+    ∷ same_said (asked (put_back 4 3 3 5) 5 (tell_length 0)) (yields (49 ∷ []))
     ∷ same_said (asked (moment 5).pool 5 audit) (yields (3 ∷ []))
     -- a head, on the undamaged blob and on the one with the older block
     ∷ same_list (joined (hands_out one (reader (moment 3).pool (moment 3)) 0 (1 ∷ 1 ∷ []))) (9 ∷ 0 ∷ [])

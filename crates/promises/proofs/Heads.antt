@@ -19,7 +19,7 @@ use Rattle.meaning.specs.Walk.{fine}
 use Rattle.meaning.specs.Change.{Change, Store}
 use Rattle.meaning.specs.Calls.{done, sized, length_call}
 use Rattle.meaning.specs.Answers.{yields, refuses}
-use Rattle.meaning.specs.Run.{Call, tellLength, read, says, run}
+use Rattle.meaning.specs.Run.{Call, tell_length, read, says, run}
 use Rattle.meaning.specs.Head.{head_at, head_of, open_head, height_at, piece, handed, handed_out, moved, pieces, sum}
 use Rattle.laws.proofs.Editions.{one_proper}
 use Rattle.laws.proofs.Pieces.{piece_none, pieces_are, pieces_last}
@@ -111,7 +111,7 @@ module _ (e : Edition) (p : Proper e) (S S* : Store) (r n : ℕ) (opening : open
       ∙ sym (ap (λ h. pieces e S.pool h sizes) (is e p S r n opening))
 
 -- demand three's sentence, from what length and read tell
-module _ (e : Edition) (p : Proper e) (S : Store) (P* : List ℕ) (r : ℕ) (b : Blob) (length_told : Told e S P* b (tellLength r))
+module _ (e : Edition) (p : Proper e) (S : Store) (P* : List ℕ) (r : ℕ) (b : Blob) (length_told : Told e S P* b (tell_length r))
     (read_told : (at m : ℕ) → Told e S P* b (read r at m)) (n : ℕ) (opening : opens e S r ≡ yields (n ∷ [])) where
   head_told : HeadTold e S P* r b
   head_told = record {
@@ -131,7 +131,7 @@ module _ (e : Edition) (p : Proper e) (S₀ : Store) (good : sized e S₀.pool S
   told : (r : ℕ) → state S.records r ≡ 2 → (b : Blob) × (seen : List ℕ) × (blob_at e S r ≡ fine b seen) × HeadTold e S P* r b
   told r root =
       let (b, seen, found, tells) = reading_told e p S₀ good calls S moment P* size fill r root in
-      let of_length = tells 0 0 0 (tellLength r) (Memᴰ.head refl) in
+      let of_length = tells 0 0 0 (tell_length r) (Memᴰ.head refl) in
       let of-read : (at m : ℕ) → Told e S P* b (read r at m) = λ at m. tells at m 0 (read r at m) (Memᴰ.tail (Memᴰ.head refl)) in
       let (bs, (o, passed)) = moment_passes e p S₀ good calls S moment in
       let low = root_within S.records (slots_at e S) r (sized_lengths e S.pool S.records o.lengths).lines root in

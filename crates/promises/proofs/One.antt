@@ -10,7 +10,7 @@ use lib.ListN.{length, replicate}
 use Rattle.meaning.specs.declared.Edition.{Edition}
 use Rattle.meaning.specs.declared.Refusal.{Refusal}
 use Rattle.meaning.specs.declared.Finished.{Finished}
-use Rattle.meaning.specs.declared.Finished.TheVariants as finishedCase
+use Rattle.meaning.specs.declared.Finished.TheVariants as FinishedCase
 use Rattle.meaning.specs.Lists.{pick}
 use Rattle.meaning.specs.Edition.{Proper}
 use Rattle.meaning.specs.Bytes.{record_at, record_of}
@@ -22,7 +22,7 @@ use Rattle.meaning.specs.Calls.{Outcome, after, sized, refuse_past, refuse_full,
 use Rattle.meaning.specs.Calls.{read_on, read_in, show_on, show_in, create_on, create_in, write_on, write_in, resize_on, resize_in}
 use Rattle.meaning.specs.Calls.{length_call, read_call, show_call, audit_call, create_call, write_call, resize_call, delete_call}
 use Rattle.meaning.specs.Answers.{wipe_answer, Reads, read_out, Said, yields, refuses, finished_said}
-use Rattle.meaning.specs.Run.{Call, create, audit, write, resize, delete, tellLength, read, show_leaf, says, perform}
+use Rattle.meaning.specs.Run.{Call, create, audit, write, resize, delete, tell_length, read, show_leaf, says, perform}
 use Rattle.laws.proofs.Free.{free_record, free_length}
 use Rattle.laws.proofs.OneToOne.{length_said_same, audit_said_same, created_said_same, changed_said_same, finished_said_same, leaf_said_same}
 use Rattle.laws_history.proofs.Started.{wipe_starts}
@@ -126,7 +126,7 @@ module _ (e : Edition) (p : Proper e) (S : Store) where
   walk_numbered (write r offset d) q h = pool_numbered e N P R q h
   walk_numbered (resize r len) q h = pool_numbered e N P R q h
   walk_numbered (delete r) q h = pool_numbered e N P R q h
-  walk_numbered (tellLength r) q h = blob_numbered e N P R r q (one_fault (blob_at e S r) q h)
+  walk_numbered (tell_length r) q h = blob_numbered e N P R r q (one_fault (blob_at e S r) q h)
   walk_numbered (read r offset size) q h = blob_numbered e N P R r q (one_fault (blob_at e S r) q h)
   walk_numbered (show_leaf r k) q h = blob_numbered e N P R r q (one_fault (blob_at e S r) q h)
 
@@ -183,7 +183,7 @@ module _ (e : Edition) (p : Proper e) (S : Store) where
   call_untouched (write r offset d) q h = refused_after _ (write_call e P R r offset d) q (sym (says_write e S r offset d) ∙ h)
   call_untouched (resize r len) q h = refused_after _ (resize_call e P R r len) q (sym (says_resize e S r len) ∙ h)
   call_untouched (delete r) q h = refused_after _ (delete_call e P R r) q (sym (says_delete e S r) ∙ h)
-  call_untouched (tellLength r) q h = refused_after _ (length_call e P R r) q (sym (says_length e S r) ∙ h)
+  call_untouched (tell_length r) q h = refused_after _ (length_call e P R r) q (sym (says_length e S r) ∙ h)
   call_untouched (read r offset size) q h = refused_after _ (read_call e P R r offset size) q (sym (says_read e S r offset size) ∙ h)
   call_untouched (show_leaf r k) q h = refused_after _ (show_call e P R r k) q (sym (says_show e S r k) ∙ h)
 
@@ -199,7 +199,7 @@ module _ (e : Edition) (p : Proper e) (S : Store) where
   unfolding wipe_answer finished_said pick
   wipe_exactly q = (go (sized e P R), λ (t, k). rw (t, k))
     where
-      go : (t : Bool) → finished_said (pick t finishedCase.Done (finishedCase.Refused (nowhere 1))) ≡ refuses q → (t ≡ false) × (q ≡ nowhere 1)
+      go : (t : Bool) → finished_said (pick t FinishedCase.Done (FinishedCase.Refused (nowhere 1))) ≡ refuses q → (t ≡ false) × (q ≡ nowhere 1)
       go true h = let z : ◌≡◌ {A = ℕ} 0 1 = cc in absurd (omega arith)
       go false h = let k : q ≡ nowhere 1 = cc in (refl, k)
 

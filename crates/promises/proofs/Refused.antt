@@ -168,6 +168,7 @@ module _ {A : Type 0} (e : Edition) (S : Store) (o : Outcome A) where
   -- and not all are, where one is
   worn_seen : (l : List ℕ) (s : ℕ) → Memᴰ s l → last_version ≤ recorded S.records s → youngs l ≡ false
   unfolding all both
+  worn_seen [] s m k = elim m [ ]
   worn_seen (x ∷ l) s (Memᴰ.head q) k = rw (le-ltb (recorded S.records x) last_version (rw q at k))
   worn_seen (x ∷ l) s (Memᴰ.tail m) k =
       by_test (ltb (recorded S.records x) last_version) (λ t. rw t (worn_seen l s m k)) (λ t. rw t)

@@ -22,7 +22,7 @@ use Rattle.meaning.specs.Calls.{refuse_past, refuse_full}
 use Rattle.meaning.specs.Calls.{length_on, length_in, read_on, read_in, show_on, show_in, audit_on, audit_in, create_on, create_in, write_on, write_in, resize_on, resize_in}
 use Rattle.meaning.specs.Calls.{delete_on, delete_in, length_call, read_call, show_call, audit_call, create_call, write_call, resize_call, delete_call}
 use Rattle.meaning.specs.Answers.{refuses}
-use Rattle.meaning.specs.Run.{Call, create, audit, write, resize, delete, tellLength, read, show_leaf, says}
+use Rattle.meaning.specs.Run.{Call, create, audit, write, resize, delete, tell_length, read, show_leaf, says}
 use Rattle.laws.proofs.Inversions.{fine_same, fine_and_then}
 use Rattle.laws_sound.proofs.sound.Pools.{pool_found}
 use Rattle.laws_sound.proofs.again.Outcomes.{refused_done, sized_lengths, blob_among, among_met, among_walk}
@@ -227,7 +227,7 @@ module _ (e : Edition) (p : Proper e) (S : Store) where
         (λ young w. by_if (ltb (length (free_at e S)) (new_at e S len b)) 11 _ (Table e S (resize r len) q) w
         (λ t k. refusal_11_resize r len b refl m young (ltb-true (length (free_at e S)) (new_at e S len b) t) k) (λ t z. refused_done (sym z)))) o roots h;
   }
-  chain (tellLength r) = record {
+  chain (tell_length r) = record {
     Value = ℕ;
     values = one_number;
     inside = length_in e N P R r;
@@ -235,7 +235,7 @@ module _ (e : Edition) (p : Proper e) (S : Store) where
     is = unfold length_call in says_length e S r;
     roots = inr (r, unfold named in refl, unfold length_in reading in refl);
     faults = λ q f. unfold walked in check_refused (blob_at e S r) _ q (one_fault (blob_at e S r) q f);
-    rest = λ q o roots h. reading_rest (tellLength r) r (length_on e N P R) (unfold named in refl) (unfold walked in refl) q
+    rest = λ q o roots h. reading_rest (tell_length r) r (length_on e N P R) (unfold named in refl) (unfold walked in refl) q
         (λ b m w. unfold length_on in refused_done (sym w)) o roots h;
   }
   chain (read r offset size) = record {

@@ -12,7 +12,7 @@ use Rattle.meaning.specs.Calls.{Outcome, refused, done}
 use Rattle.meaning.specs.Calls.{length_call, read_call, show_call, audit_call, create_call, write_call, resize_call, delete_call}
 use Rattle.meaning.specs.Answers.{length_answer, audit_answer, create_answer, change_answer, finish_answer, leaf_answer, read_out, shown_part}
 use Rattle.meaning.specs.Answers.{Said, yields, refuses, length_said, audit_said, created_said, changed_said, finished_said, leaf_said, said_with}
-use Rattle.meaning.specs.Run.{create, audit, write, resize, delete, tellLength, read, show_leaf, says}
+use Rattle.meaning.specs.Run.{create, audit, write, resize, delete, tell_length, read, show_leaf, says}
 
 -- what an outcome says, given its values
 unfoldable pub said_by : {A : Type 0} → (A → List ℕ) → Outcome A → Said
@@ -111,7 +111,7 @@ module _ (e : Edition) (S : Store) where
   unfolding says
   says_delete r = changed_said_lem _
 
-  pub says_length : (r : ℕ) → says e S (tellLength r) ≡ said_by one_number (length_call e S.pool S.records r)
+  pub says_length : (r : ℕ) → says e S (tell_length r) ≡ said_by one_number (length_call e S.pool S.records r)
   unfolding says
   says_length r = length_said_lem _
 

@@ -20,7 +20,7 @@ use Rattle.meaning.specs.Change.{Store}
 use Rattle.meaning.specs.Calls.{Outcome, refuse_if, sized, opened, reading, refuse_past, live}
 use Rattle.meaning.specs.Calls.{length_call, length_in, length_on, read_call, read_in, read_on, show_call, show_in, show_on, audit_call, audit_in, audit_on}
 use Rattle.meaning.specs.Answers.{yields}
-use Rattle.meaning.specs.Run.{Call, audit, tellLength, read, show_leaf, says, run, blocks_of}
+use Rattle.meaning.specs.Run.{Call, audit, tell_length, read, show_leaf, says, run, blocks_of}
 use Rattle.laws.proofs.Numbers.{part_part}
 use Rattle.laws.proofs.Walked.{mem_at, walk_here, LeafHere}
 use Rattle.laws_resize.proofs.resizing.SlotCounts.{times_cons}
@@ -89,7 +89,7 @@ module _ (e : Edition) (p : Proper e) (S : Store) where
     reads k = opened_passed e S _ f.0 ∙ root_passed e S _ r f.1 ∙ check_passed (blob_at e S r) k b f.2.0 f.2.1
 
     -- length
-    pub gives_length : says e S (tellLength r) ≡ yields (length_of b ∷ [])
+    pub gives_length : says e S (tell_length r) ≡ yields (length_of b ∷ [])
     unfolding length_call length_in length_on said_by
     gives_length = says_length e S r ∙ ap (said_by one_number) (reads (length_on e N P R))
 

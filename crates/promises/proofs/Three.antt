@@ -14,7 +14,7 @@ use Rattle.meaning.specs.Walk.{fine, blob_check, pool_check}
 use Rattle.meaning.specs.Change.{Store}
 use Rattle.meaning.specs.Calls.{Outcome, refused, done, slots_in, sized, audit_call}
 use Rattle.meaning.specs.Answers.{yields, refuses, shown_part}
-use Rattle.meaning.specs.Run.{Call, audit, tellLength, read, show_leaf, says, run}
+use Rattle.meaning.specs.Run.{Call, audit, tell_length, read, show_leaf, says, run}
 use Rattle.laws.proofs.Every.{Every, every_mem, mem_every}
 use Rattle.laws_history.proofs.Local.{Same}
 use Rattle.laws_history.proofs.Started.{blank, held, FromRun, run_slots}
@@ -75,11 +75,11 @@ shown_said e P P* (done v cs) o* q h = rw q (ap (λ (l : List ℕ). yields ((e.s
 -- each reading call of a blob
 module _ (e : Edition) (N : ℕ) (S : Store) (P* : List ℕ) (r : ℕ) (a : Answers e N S.pool P* S.records r) where
   -- length
-  length_told : Told e S P* a.blob (tellLength r)
+  length_told : Told e S P* a.blob (tell_length r)
   length_told =
       told_by e S P* a.blob _ _ a.length one_number one_number
       (λ all. ap (said_by one_number) (a.length.same all))
-      (tellLength r) (says_length e S r) (says_length e (reader P* S) r)
+      (tell_length r) (says_length e S r) (says_length e (reader P* S) r)
 
   -- read
   read_told : (offset size : ℕ) → Told e S P* a.blob (read r offset size)
@@ -96,10 +96,11 @@ module _ (e : Edition) (N : ℕ) (S : Store) (P* : List ℕ) (r : ℕ) (a : Answ
       (show_leaf r k) (says_show e S r k) (says_show e (reader P* S) r k)
 
   -- any of them
-  told : (offset size k : ℕ) (c : Call) → Memᴰ c (tellLength r ∷ read r offset size ∷ show_leaf r k ∷ []) → Told e S P* a.blob c
+  told : (offset size k : ℕ) (c : Call) → Memᴰ c (tell_length r ∷ read r offset size ∷ show_leaf r k ∷ []) → Told e S P* a.blob c
   told offset size k c (Memᴰ.head q) = subst (Told e S P* a.blob) (sym q) length_told
   told offset size k c (Memᴰ.tail (Memᴰ.head q)) = subst (Told e S P* a.blob) (sym q) (read_told offset size)
   told offset size k c (Memᴰ.tail (Memᴰ.tail (Memᴰ.head q))) = subst (Told e S P* a.blob) (sym q) (leaf_told k)
+  told offset size k c (Memᴰ.tail (Memᴰ.tail (Memᴰ.tail m))) = elim m [ ]
 
 module _ (e : Edition) (p : Proper e) (S₀ : Store) (good : sized e S₀.pool S₀.records ≡ true) (calls : List Call)
     (S : Store) (moment : Memᴰ S (run e S₀ calls)) (P* : List ℕ) (size : length P* ≡ length S.pool)
@@ -117,7 +118,7 @@ module _ (e : Edition) (p : Proper e) (S₀ : Store) (good : sized e S₀.pool S
   -- length, read and show
   pub reading_told : (r : ℕ) → state S.records r ≡ 2
       → (b : Blob) × (seen : List ℕ) × (blob_check e (slots_in e S.pool) S.pool S.records r ≡ fine b seen)
-      × ((offset size k : ℕ) (c : Call) → Memᴰ c (tellLength r ∷ read r offset size ∷ show_leaf r k ∷ []) → Told e S P* b c)
+      × ((offset size k : ℕ) (c : Call) → Memᴰ c (tell_length r ∷ read r offset size ∷ show_leaf r k ∷ []) → Told e S P* b c)
   reading_told r root =
       let n : ℕ = slots_in e S₀.pool in
       let a = reading_demand e p S₀ good calls S moment _ _ checks.2 P* size filled r root in

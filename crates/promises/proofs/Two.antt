@@ -19,7 +19,7 @@ use Rattle.meaning.specs.Walk.{fine, blob_check}
 use Rattle.meaning.specs.Change.{Change, Store}
 use Rattle.meaning.specs.Calls.{done, sized, rooted, reading, refuse_past, new_blocks, live, read_on, read_in, read_call}
 use Rattle.meaning.specs.Answers.{Reads, read_out, yields}
-use Rattle.meaning.specs.Run.{Call, audit, write, resize, tellLength, read, says, perform, run, book_of, blocks_of}
+use Rattle.meaning.specs.Run.{Call, audit, write, resize, tell_length, read, says, perform, run, book_of, blocks_of}
 use Rattle.laws.proofs.Numbers.{part_length}
 use Rattle.laws.proofs.Parts.{pasted_length, part_pasted}
 use Rattle.laws.proofs.Codec.{padded_length}
@@ -71,14 +71,14 @@ made_alive e p S S' taken gone b old new c = is_alive e p S' (c.before ++ (b ∷
 
 -- after a resize, the length
 length_then : (e : Edition) → Proper e → (S : Store) (r len : ℕ) (vs : List ℕ) → says e S (resize r len) ≡ yields vs
-    → says e (perform e S (resize r len)) (tellLength r) ≡ yields (len ∷ [])
+    → says e (perform e S (resize r len)) (tell_length r) ≡ yields (len ∷ [])
 unfolding length_of
 length_then e p S r len vs h =
     let (b, b', at, stays, is, bytes, old, new, c, f) = resize_turns e p S r len vs h in
     let g = made_alive e p S (perform e S (resize r len)) 1 (b ∷ []) b' (cells_of b) (cells_of b') c in
     let says_so = gives_length e p (perform e S (resize r len)) (root_of b') b' g in
     let long : length_of b' ≡ len = ap length bytes ∙ padded_length len (content_of b) in
-    subst (λ (s : ℕ). says e (perform e S (resize r len)) (tellLength s) ≡ yields (len ∷ [])) stays (says_so ∙ ap (λ (n : ℕ). yields (n ∷ [])) long)
+    subst (λ (s : ℕ). says e (perform e S (resize r len)) (tell_length s) ≡ yields (len ∷ [])) stays (says_so ∙ ap (λ (n : ℕ). yields (n ∷ [])) long)
 
 -- after a write, the bytes
 bytes_then : (e : Edition) → Proper e → (S : Store) (r offset : ℕ) (d vs : List ℕ) → says e S (write r offset d) ≡ yields vs

@@ -14,7 +14,7 @@ use Rattle.meaning.specs.Change.{Store}
 use Rattle.meaning.specs.Resize as resizing
 use Rattle.meaning.specs.Calls.{Outcome, slots_in, sized, usable, live, new_blocks, read_call, after_wipe}
 use Rattle.meaning.specs.Answers.{wipe_answer, data_start, Ends, Wipes, Reads, Said, yields, refuses, length_said, audit_said, created_said, changed_said, finished_said, leaf_said}
-use Rattle.meaning.specs.Run.{Call, create, audit, write, resize, delete, tellLength, read, show_leaf, says, perform, run, book_of, blocks_of}
+use Rattle.meaning.specs.Run.{Call, create, audit, write, resize, delete, tell_length, read, show_leaf, says, perform, run, book_of, blocks_of}
 use Rattle.meaning.specs.declared.Edition.{Edition}
 use Rattle.meaning.specs.declared.Named.TheVariants.{Slot}
 use Rattle.meaning.specs.declared.Refusal.{Refusal}
@@ -46,7 +46,7 @@ named audit = []
 named (write r offset d) = r ∷ []
 named (resize r len) = r ∷ []
 named (delete r) = r ∷ []
-named (tellLength r) = r ∷ []
+named (tell_length r) = r ∷ []
 named (read r offset size) = r ∷ []
 named (show_leaf r k) = r ∷ []
 
@@ -60,7 +60,7 @@ walked e S audit = pool_at e S
 walked e S (write r offset d) = pool_at e S
 walked e S (resize r len) = pool_at e S
 walked e S (delete r) = pool_at e S
-walked e S (tellLength r) = and_then (blob_at e S r) (λ b seen. fine (b ∷ []) seen)
+walked e S (tell_length r) = and_then (blob_at e S r) (λ b seen. fine (b ∷ []) seen)
 walked e S (read r offset size) = and_then (blob_at e S r) (λ b seen. fine (b ∷ []) seen)
 walked e S (show_leaf r k) = and_then (blob_at e S r) (λ b seen. fine (b ∷ []) seen)
 
@@ -186,7 +186,7 @@ pub record DemandTwo (e : Edition) : Type 0 where
   pub blocks : (b : Blob) → Shaped e b → length (slots_of b) ≡ total e.fan (leaves_for e.leaf (length_of b))
   pub one_shape : (a b : Blob) → Shaped e a → Shaped e b → length_of a ≡ length_of b → shape_of a ≡ shape_of b
   -- length, read and show of a root give its blob's length, its bytes and its leaf's bytes as they lie in the pool: where they start, how many, and which
-  pub gives_length : (S : Store) (r : ℕ) (b : Blob) → Finds e S r b → says e S (tellLength r) ≡ yields (length_of b ∷ [])
+  pub gives_length : (S : Store) (r : ℕ) (b : Blob) → Finds e S r b → says e S (tell_length r) ≡ yields (length_of b ∷ [])
   pub gives_bytes : (S : Store) (r : ℕ) (b : Blob) → Finds e S r b → (offset size : ℕ) → offset + size ≤ length_of b
       → says e S (read r offset size) ≡ yields (part offset size (content_of b))
   pub gives_leaf : (S : Store) (r : ℕ) (b : Blob) → Finds e S r b → (k s : ℕ) (d : List ℕ) → k < length (leaves_of b)
@@ -220,7 +220,7 @@ pub record DemandTwo (e : Edition) : Type 0 where
       → (b : Blob) × (root_of b ≡ r) × Became e S (perform e S (delete r)) 1 (b ∷ []) [] (cells_of b) [] × Freed e S (perform e S (delete r)) b []
   -- so a length given is the length then, and bytes written are the bytes read
   pub then_length : (S : Store) (r len : ℕ) (vs : List ℕ) → says e S (resize r len) ≡ yields vs
-      → says e (perform e S (resize r len)) (tellLength r) ≡ yields (len ∷ [])
+      → says e (perform e S (resize r len)) (tell_length r) ≡ yields (len ∷ [])
   pub then_bytes : (S : Store) (r offset : ℕ) (d vs : List ℕ) → says e S (write r offset d) ≡ yields vs
       → says e (perform e S (write r offset d)) (read r offset (length d)) ≡ yields d
   -- new blocks needed are the difference of the block totals; none for a length that is not longer
@@ -266,5 +266,5 @@ pub record DemandThree (e : Edition) : Type 0 where
   pub told : (S₀ : Store) → sized e S₀.pool S₀.records ≡ true → (calls : List Call) (S : Store) → Memᴰ S (run e S₀ calls)
       → (P* : List ℕ) → length P* ≡ length S.pool → Filled e S₀ calls P*
       → ((r : ℕ) → state S.records r ≡ 2 → (b : Blob) × (seen : List ℕ) × (blob_at e S r ≡ fine b seen)
-      × ((offset size k : ℕ) (c : Call) → Memᴰ c (tellLength r ∷ read r offset size ∷ show_leaf r k ∷ []) → Told e S P* b c))
+      × ((offset size k : ℕ) (c : Call) → Memᴰ c (tell_length r ∷ read r offset size ∷ show_leaf r k ∷ []) → Told e S P* b c))
       × (((vs : List ℕ) × (says e (reader P* S) audit ≡ yields vs)) ↔ (P* ≡ S.pool))

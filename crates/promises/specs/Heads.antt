@@ -10,7 +10,7 @@ use Rattle.meaning.specs.Walk.{fine}
 use Rattle.meaning.specs.Change.{Store}
 use Rattle.meaning.specs.Calls.{sized}
 use Rattle.meaning.specs.Answers.{Said, yields, refuses}
-use Rattle.meaning.specs.Run.{Call, tellLength, read, says, run}
+use Rattle.meaning.specs.Run.{Call, tell_length, read, says, run}
 use Rattle.meaning.specs.Head.{open_head, pieces, sum}
 use Rattle.meaning.specs.declared.Edition.{Edition}
 use Rattle.meaning.specs.declared.Refusal.{Refusal}
@@ -18,7 +18,7 @@ use Rattle.promises.specs.Demands.{blob_at, AsItWas, FirstOther, reader, Filled}
 
 -- What opening a head on root r says: what length says, with its refusals, of which demand one speaks.
 abbrev pub opens : Edition → Store → (r : ℕ) → Said
-opens e S r = says e S (tellLength r)
+opens e S r = says e S (tell_length r)
 
 -- what that head then hands out, asked for these sizes one after the other
 abbrev pub hands_out : Edition → Store → (r : ℕ) → (sizes : List ℕ) → List (List ℕ)

@@ -64,10 +64,10 @@ refused_hands_none e P R r q h sizes =
     rw h (pieces_are e P 0 0 sizes 0 ∙ rw z (piece_none e P (height_at e P 0) 0 0))
 
 -- and the head that an asking leaves is the definition's head after the asking
-pub next_is : (root place len isOpen k : ℕ) (h : List ℕ) → h ≡ root ∷ place ∷ len ∷ isOpen ∷ []
+pub next_is : (root place len is_open k : ℕ) (h : List ℕ) → h ≡ root ∷ place ∷ len ∷ is_open ∷ []
     → head_from (set h 1 (moved (head_from h) k).place) ≡ moved (head_from h) k
 unfolding head_from moved
-next_is root place len isOpen k h e = rw e
+next_is root place len is_open k h e = rw e
 
 -- two outcomes that meet one promise are equal
 pub one_opening : (o : Outcome ℕ) (root : ℕ) (a b h g : List ℕ) → OpenNumbers o root a h → OpenNumbers o root b g → (a ≡ b) × (h ≡ g)

@@ -15,8 +15,8 @@ head_numbers root (Is n) = root ∷ 0 ∷ n ∷ 1 ∷ []
 head_numbers root (Refused r) = 0 ∷ 0 ∷ 0 ∷ 0 ∷ []
 
 -- any four numbers as a head: it is open if the fourth is 1; of one that is not, nothing remains
-unfoldable pub open_length : (len isOpen : ℕ) → ℕ
-open_length len isOpen = pick (eqb isOpen 1) len 0
+unfoldable pub open_length : (len is_open : ℕ) → ℕ
+open_length len is_open = pick (eqb is_open 1) len 0
 
 unfoldable pub head_from : (head : List ℕ) → Head
 head_from head = head_at (get_or head 0 0) (get_or head 1 0) (open_length (get_or head 2 0) (get_or head 3 0))

@@ -20,7 +20,7 @@ use Rattle.meaning.specs.Calls.{done, refuse_if, usable, refuse_full, become, cr
 use Rattle.meaning.specs.Answers.{create_answer, Ends}
 use Rattle.meaning.specs.declared.Edition.{Edition}
 use Rattle.meaning.specs.declared.Refusal.{Refusal}
-use Rattle.meaning.specs.declared.Created.TheVariants as createdCase
+use Rattle.meaning.specs.declared.Created.TheVariants as CreatedCase
 use Rattle.laws.proofs.Inversions.{by_test, both_true}
 use Rattle.laws.proofs.Codec.{version_is}
 use Rattle.check_gate.specs.Gate.{Whole}
@@ -86,7 +86,7 @@ at_none [] e = refl
 at_none (x ∷ l) e = absurd (let z : ◌≡◌ {A = ℕ} 0 1 = cc in omega arith)
 
 module _ (e : Edition) (p : Proper e) (n : ℕ) (P R : List ℕ) (w : Whole e n P R) (x : Free) (ex : x ≡ lowest_of (usable_from R 0 n)) where
-  pub create_full : x ≡ Nowhere → (q : Refusal) → q ≡ nowhere 11 → Ends e create_answer (create_on e n P R []) P R (createdCase.Refused q) P R
+  pub create_full : x ≡ Nowhere → (q : Refusal) → q ≡ nowhere 11 → Ends e create_answer (create_on e n P R []) P R (CreatedCase.Refused q) P R
   unfolding create_on refuse_full refuse_if create_answer after
   create_full z q eq =
       let u : usable e n P R ≡ [] = sym (usable_all e n P R) ∙ at_none (usable_from R 0 n) (sym z ∙ ex) in
@@ -135,7 +135,7 @@ module _ (e : Edition) (p : Proper e) (n : ℕ) (P R : List ℕ) (w : Whole e n 
           rw (f, l, change)
 
       pub create_done : (P' R' none : List ℕ) → none ≡ [] → P' ≡ put e.size s (block_bytes e 0 0 s (v + 1) none) P → R' ≡ put 12 s (record_of 2 (v + 1)) R
-          → Ends e create_answer (create_on e n P R []) P R (createdCase.At s) P' R'
+          → Ends e create_answer (create_on e n P R []) P R (CreatedCase.At s) P' R'
       unfolding create_answer after changed_by puts renewed encoded item_bytes
       create_done P' R' none en ep er' =
           record {

@@ -10,7 +10,7 @@ use lib.Dec.{ltb}
 use lib.ListN.{length, take, drop}
 use Rattle.meaning.specs.declared.Edition.{Edition}
 use Rattle.meaning.specs.declared.Refusal.{Refusal}
-use Rattle.meaning.specs.declared.Changed.TheVariants as changedCase
+use Rattle.meaning.specs.declared.Changed.TheVariants as ChangedCase
 use Rattle.meaning.specs.Shape.{leaves_for, total}
 use Rattle.meaning.specs.Tree.{Blob}
 use Rattle.meaning.specs.Refusals.{nowhere}
@@ -43,7 +43,7 @@ module _ (e : Edition) (n : ℕ) (P R : List ℕ) (r bytes leaves : ℕ) (hs fs 
   on_blob = known_changing e n P R r bytes leaves g.row hs fs g.known (resize_on e n P R len)
 
   -- refusal 12
-  worn_ends : worn_among R hs n ≡ true → Ends e change_answer (resize_in e n P R r len) P R (changedCase.Refused (nowhere 12)) P R
+  worn_ends : worn_among R hs n ≡ true → Ends e change_answer (resize_in e n P R r len) P R (ChangedCase.Refused (nowhere 12)) P R
   unfolding resize_on change_answer after
   worn_ends is =
       let u : resize_in e n P R r len ≡ refused (nowhere 12) = on_blob ∙ worn_refused e n P R r bytes leaves g.row hs fs g.known is _ in
@@ -60,7 +60,7 @@ module _ (e : Edition) (n : ℕ) (P R : List ℕ) (r bytes leaves : ℕ) (hs fs 
 
     -- refusal 11
     full_ends : worn_among R hs n ≡ false → lacking e leaves len free ≡ true
-        → Ends e change_answer (resize_in e n P R r len) P R (changedCase.Refused (nowhere 11)) P R
+        → Ends e change_answer (resize_in e n P R r len) P R (ChangedCase.Refused (nowhere 11)) P R
     unfolding refuse_full refuse_if change_answer after
     full_ends sound is =
         let u : resize_in e n P R r len ≡ refused (nowhere 11) = unworn sound ∙ rw (← room, is) in
@@ -69,7 +69,7 @@ module _ (e : Edition) (n : ℕ) (P R : List ℕ) (r bytes leaves : ℕ) (hs fs 
     module _ (number : ℕ) (en : number ≡ resize_barred e R hs n leaves len free) where
       -- refused with that number
       pub resize_barred_lem : (number ≡ 0 → ⊥) → (q : Refusal) → q ≡ nowhere number
-          → Ends e change_answer (resize_in e n P R r len) P R (changedCase.Refused q) P R
+          → Ends e change_answer (resize_in e n P R r len) P R (ChangedCase.Refused q) P R
       resize_barred_lem some q eq =
           by_test (worn_among R hs n)
           (λ t. rw (eq, en, ← resize_worn e R hs n leaves len free _ refl t) (worn_ends t))
@@ -93,7 +93,7 @@ module _ (e : Edition) (n : ℕ) (P R : List ℕ) (r bytes leaves : ℕ) (hs fs 
 
         -- done
         pub resize_done : (P' R' : List ℕ) → P' ≡ puts e.size (λ c. c.block) after_resize P → R' ≡ puts 12 (λ c. c.line) after_resize R
-            → Ends e change_answer (resize_in e n P R r len) P R changedCase.Done P' R'
+            → Ends e change_answer (resize_in e n P R r len) P R ChangedCase.Done P' R'
         unfolding refuse_full refuse_if change_answer after changed_by
         resize_done P' R' ep er =
             let u : resize_in e n P R r len ≡ done tt after_resize =

@@ -9,7 +9,7 @@ use Rattle.meaning.specs.Answers.{leaf_answer}
 use Rattle.meaning.specs.declared.Edition.{Edition}
 use Rattle.meaning.specs.declared.Refusal.{Refusal}
 use Rattle.meaning.specs.declared.Leaf.{Leaf}
-use Rattle.meaning.specs.declared.Leaf.TheVariants as leafCase
+use Rattle.meaning.specs.declared.Leaf.TheVariants as LeafCase
 use Rattle.check_gate.specs.declared.Opened.{Opened}
 use Rattle.check_gate.specs.declared.Opened.TheVariants.{Slots, Refused}
 use Rattle.check_gate.specs.Gate.{gate, Whole}
@@ -24,7 +24,7 @@ use Rattle.call_show.proofs.find.Shown.{row_below, show_spelt_lem}
 
 -- refusals 1 and 2, or what is answered behind them
 module _ (e : Edition) (P R : List ℕ) (x : Opened) (ex : x ≡ gate e P R) (r i : ℕ) where
-  pub leaf_barred : (q : Refusal) → x ≡ Refused q → leafCase.Refused q ≡ leaf_answer e (show_call e P R r i)
+  pub leaf_barred : (q : Refusal) → x ≡ Refused q → LeafCase.Refused q ≡ leaf_answer e (show_call e P R r i)
   unfolding leaf_answer show_call
   leaf_barred q eq = sym (ap (leaf_answer e) (gate_barred e P R x ex q eq (show_in e (slots_in e P) P R r i)))
 
@@ -35,7 +35,7 @@ module _ (e : Edition) (P R : List ℕ) (x : Opened) (ex : x ≡ gate e P R) (r 
 -- refusal 3 and the blob check: the refusal, or the leaf in the row
 module _ (e : Edition) (n : ℕ) (P R : List ℕ) (r : ℕ) (o : List ℕ) (w : Walked) (sx ox : List ℕ) (ew : met w sx ox ≡ open_noted e n P R r o) where
   module _ (f : Refusal) (ef : w ≡ Fault f) where
-    pub leaf_refused : (i : ℕ) → leafCase.Refused f ≡ leaf_answer e (show_in e n P R r i)
+    pub leaf_refused : (i : ℕ) → LeafCase.Refused f ≡ leaf_answer e (show_in e n P R r i)
     unfolding leaf_answer show_in
     leaf_refused i = rw (open_fault e n P R r o w sx ox ew f ef (show_on e n P R i))
 

@@ -8,7 +8,7 @@ use borrow.Author.Tests.{eq-eqb, ne_eqb}
 use lib.ListN.{length}
 use Rattle.meaning.specs.declared.Edition.{Edition}
 use Rattle.meaning.specs.declared.Refusal.{Refusal}
-use Rattle.meaning.specs.declared.Changed.TheVariants as changedCase
+use Rattle.meaning.specs.declared.Changed.TheVariants as ChangedCase
 use Rattle.meaning.specs.Lists.{pick}
 use Rattle.meaning.specs.Bytes.{block, recorded, record_at, state}
 use Rattle.meaning.specs.Refusals.{nowhere}
@@ -75,7 +75,7 @@ module _ (e : Edition) (n : ℕ) (hs fs d : List ℕ) (offset : ℕ) (P₀ R₀ 
 module _ (e : Edition) (n : ℕ) (P R hs fs : List ℕ) (bytes offset : ℕ) (d : List ℕ) (number : ℕ) (en : number ≡ write_barred R hs n bytes offset (length d)) where
   -- refused with that number
   pub noted_refused : (number ≡ 0 → ⊥) → (q : Refusal) → q ≡ nowhere number
-      → Ends e change_answer (write_noted e n P R hs fs bytes offset d) P R (changedCase.Refused q) P R
+      → Ends e change_answer (write_noted e n P R hs fs bytes offset d) P R (ChangedCase.Refused q) P R
   unfolding write_noted change_answer after pick
   noted_refused some q eq =
       let t = ne_eqb number 0 some in
@@ -87,7 +87,7 @@ module _ (e : Edition) (n : ℕ) (P R hs fs : List ℕ) (bytes offset : ℕ) (d 
 
     pub noted_done : (P' R' : List ℕ) → P' ≡ puts e.size (λ c. c.block) (over (write_plan e P R hs fs d offset) 0 n) P
         → R' ≡ puts 12 (λ c. c.line) (over (write_plan e P R hs fs d offset) 0 n) R
-        → Ends e change_answer (write_noted e n P R hs fs bytes offset d) P R changedCase.Done P' R'
+        → Ends e change_answer (write_noted e n P R hs fs bytes offset d) P R ChangedCase.Done P' R'
     unfolding write_noted change_answer after changed_by pick
     noted_done P' R' ep er =
         let t = eq-eqb number 0 z in

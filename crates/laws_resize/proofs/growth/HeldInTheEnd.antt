@@ -18,7 +18,7 @@ use Rattle.laws_resize.proofs.growth.Taller.{blob_cells, Distinct, grow_old, gro
 use Rattle.laws_resize.proofs.growth.Order.{Follows, grow_follows}
 use Rattle.laws_resize.proofs.growth.Higher.{grow_spot}
 use Rattle.laws_resize.proofs.growth.RootAsItRises.{root_is, edge_is}
-use Rattle.laws_resize.proofs.growth.PthOfSubtree.{none as noCell}
+use Rattle.laws_resize.proofs.growth.PthOfSubtree.{none as no_cell}
 use Rattle.laws_resize.proofs.growth.RoomAtTheRoot.{grown, blob}
 
 -- the slots after the first
@@ -73,7 +73,7 @@ module _ (fan : ℕ) (two : 2 ≤ fan) (lens free : List ℕ) (k h : ℕ) (t : T
         let m : List (ℕ × Cell) = grow_made fan k lens free h t in
         let d : Distinct m = follows_distinct m free (grow_follows fan k lens free h t) a in
         let g = grow_spot fan (omega arith) lens free k h t p less in
-        let at = distinct_at m (noCell fan (omega arith) lens free) d p less in
+        let at = distinct_at m (no_cell fan (omega arith) lens free) d p less in
         rw (grown fan two k h lens free t r room fits, ← edge_is fan (omega arith) lens free h t)
         (grow_new (get_or free p past) fan k lens free h t out d ∙ (rw g at at))
 

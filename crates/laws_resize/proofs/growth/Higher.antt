@@ -22,7 +22,7 @@ use Rattle.laws_resize.specs.growth.Grow.{items_of, fresh, fill, wider}
 use Rattle.laws_resize.specs.growth.Made.{top_of, made, higher_made, grow_made}
 use Rattle.laws_resize.proofs.growth.NewSubtreePlaces.{row_lens, row_free, row_full, row_at_lem, fresh_lens, fresh_free, fresh_full, fresh_at_lem}
 use Rattle.laws_resize.proofs.growth.Taller.{wider_more, higher_made_lem}
-use Rattle.laws_resize.proofs.growth.PthOfSubtree.{row_cells_at, slots_row, row_most, fresh_most, none as noCell}
+use Rattle.laws_resize.proofs.growth.PthOfSubtree.{row_cells_at, slots_row, row_most, fresh_most, none as no_cell}
 use Rattle.laws_resize.proofs.growth.PthMade.{row_spot, fill_lens, made_most, made_full, made_spot}
 use Rattle.laws_resize.proofs.growth.Order.{made_follows}
 
@@ -128,23 +128,23 @@ module _ (fan : ℕ) (one : 1 ≤ fan) (lens free : List ℕ) where
   -- the p-th new block, if i leaves are hung and b blocks are made before
   abbrev HigherSpot : ℕ → Type 0
   HigherSpot k = (h i b : ℕ) (t : Tree h) (p : ℕ) → p < length (higher_made fan k (drop i lens) (drop b free) h t)
-      → get_or (higher_made fan k (drop i lens) (drop b free) h t) p (noCell fan one lens free)
+      → get_or (higher_made fan k (drop i lens) (drop b free) h t) p (no_cell fan one lens free)
       ≡ (get_or free (b + p) past, tall_cell fan (length lens) (sizes lens) free k h i b (top_of h t) (b + p))
 
   -- in the row of new children; after it
   spot_here : (k h i b : ℕ) (t : Tree h) (q : ℕ) → i < length lens → q < length (row h i b)
-      → get_or (row h i b ++ rest k h i b t) q (noCell fan one lens free)
+      → get_or (row h i b ++ rest k h i b t) q (no_cell fan one lens free)
       ≡ (get_or free (b + suc q) past, tall_cell fan (length lens) (sizes lens) free (suc k) h i b (top_of h t) (b + suc q))
   unfolding tall_cell pick
   spot_here k h i b t q some less =
       let y : suc b + q ≡ b + suc q = omega arith in
       let x : b + suc q - suc b ≡ q = omega arith in
-      get_or-append (row h i b) (rest k h i b t) (noCell fan one lens free) q less
+      get_or-append (row h i b) (rest k h i b t) (no_cell fan one lens free) q less
       ∙ row_spot fan one lens free h (places fan (length lens) (fan - 1) h i) i (suc b) q (few h i) less
       ∙ rw (y, ne_eqb (b + suc q) b (λ e. omega arith), lt-ltb (b + suc q) (suc b + (fan - 1) * bulk fan h) (omega (arith, row_bound h i b some)), x)
 
   spot_later : (k h i b : ℕ) (t : Tree h) (q : ℕ) → HigherSpot k → i + (fan - 1) * fan ^ h < length lens → q < length (rest k h i b t)
-      → get_or (row h i b ++ rest k h i b t) (length (row h i b) + q) (noCell fan one lens free)
+      → get_or (row h i b ++ rest k h i b t) (length (row h i b) + q) (no_cell fan one lens free)
       ≡ (
         get_or free (suc b + (fan - 1) * bulk fan h + q) past,
         tall_cell fan (length lens) (sizes lens) free (suc k) h i b (top_of h t)
@@ -154,7 +154,7 @@ module _ (fan : ℕ) (one : 1 ≤ fan) (lens free : List ℕ) where
   spot_later k h i b t q ih some less =
       let b' : ℕ = suc b + (fan - 1) * bulk fan h in
       let e = rest_at k h i b t some in
-      get_or-append-add (row h i b) (rest k h i b t) q (noCell fan one lens free)
+      get_or-append-add (row h i b) (rest k h i b t) q (no_cell fan one lens free)
       ∙ rw (
         e,
         ih (suc h) (i + (fan - 1) * fan ^ h) b' (wider fan h (drop i lens) (drop b free) t).0 q (rw e at less),
@@ -172,7 +172,7 @@ module _ (fan : ℕ) (one : 1 ≤ fan) (lens free : List ℕ) where
   -- another, by its place
   spot_next : (k h i b : ℕ) (t : Tree h) (q : ℕ) → HigherSpot k → i < length lens → q < length (row h i b) + length (rest k h i b t)
       → (c : Bool) → ltb q (length (row h i b)) ≡ c
-      → get_or (row h i b ++ rest k h i b t) q (noCell fan one lens free)
+      → get_or (row h i b ++ rest k h i b t) q (no_cell fan one lens free)
       ≡ (get_or free (b + suc q) past, tall_cell fan (length lens) (sizes lens) free (suc k) h i b (top_of h t) (b + suc q))
   spot_next k h i b t q ih some less true e = spot_here k h i b t q some (ltb-true _ _ e)
   spot_next k h i b t q ih some less false e =
@@ -182,7 +182,7 @@ module _ (fan : ℕ) (one : 1 ≤ fan) (lens free : List ℕ) where
       let q' : ℕ = q - (fan - 1) * bulk fan h in
       let z : q ≡ length (row h i b) + q' = omega arith in
       let y : suc b + (fan - 1) * bulk fan h + q' ≡ b + suc q = omega arith in
-      ap (λ n. get_or (row h i b ++ rest k h i b t) n (noCell fan one lens free)) z
+      ap (λ n. get_or (row h i b ++ rest k h i b t) n (no_cell fan one lens free)) z
       ∙ spot_later k h i b t q' ih m (omega arith)
       ∙ rw y
 
@@ -193,7 +193,7 @@ module _ (fan : ℕ) (one : 1 ≤ fan) (lens free : List ℕ) where
   higher_spot (suc k) h i b t p less = go (higher_spot k) (ltb i (length lens)) refl p less
     where
       go : HigherSpot k → (c : Bool) → ltb i (length lens) ≡ c → (p : ℕ) → p < length (higher_made fan (suc k) (drop i lens) (drop b free) h t)
-          → get_or (higher_made fan (suc k) (drop i lens) (drop b free) h t) p (noCell fan one lens free)
+          → get_or (higher_made fan (suc k) (drop i lens) (drop b free) h t) p (no_cell fan one lens free)
           ≡ (get_or free (b + p) past, tall_cell fan (length lens) (sizes lens) free (suc k) h i b (top_of h t) (b + p))
       go ih true e zero less = rw (made_at k h i b t (ltb-true _ _ e), add-zero b) (spot_top k h i b t)
       go ih true e (suc q) less =
@@ -218,7 +218,7 @@ module _ (fan : ℕ) (one : 1 ≤ fan) (lens free : List ℕ) where
   -- a new block on the right edge, or later
   grow_next : (k h : ℕ) (t : Tree h) (p : ℕ) → p < length (made fan h lens free t) + length (on k h t) → (c : Bool)
       → ltb p (length (made fan h lens free t)) ≡ c
-      → get_or (made fan h lens free t ++ on k h t) p (noCell fan one lens free)
+      → get_or (made fan h lens free t ++ on k h t) p (no_cell fan one lens free)
       ≡ (
         get_or free p past,
         new_cell fan (length lens) (sizes lens) free k h (spot fan h t p) (room_of fan h t) (space_of fan h t)
@@ -227,7 +227,7 @@ module _ (fan : ℕ) (one : 1 ≤ fan) (lens free : List ℕ) where
   unfolding new_cell pick
   grow_next k h t p less true e =
       let l : p < length (made fan h lens free t) = ltb-true _ _ e in
-      get_or-append (made fan h lens free t) (on k h t) (noCell fan one lens free) p l
+      get_or-append (made fan h lens free t) (on k h t) (no_cell fan one lens free) p l
       ∙ made_spot fan one lens free h t p l
       ∙ rw (lt-ltb p (space_of fan h t) (omega (arith, made_most fan h lens free t)))
   grow_next k h t p less false e =
@@ -240,8 +240,8 @@ module _ (fan : ℕ) (one : 1 ≤ fan) (lens free : List ℕ) where
       let o : on k h t ≡ higher_made fan k (drop (room_of fan h t) lens) (drop (space_of fan h t) free) h (fill fan h lens free t).0
       = rw (fill_lens fan h lens free t, (made_follows fan h lens free t).0, f) in
       let l : q < length (on k h t) = omega arith in
-      ap (λ n. get_or (made fan h lens free t ++ on k h t) n (noCell fan one lens free)) z
-      ∙ get_or-append-add (made fan h lens free t) (on k h t) q (noCell fan one lens free)
+      ap (λ n. get_or (made fan h lens free t ++ on k h t) n (no_cell fan one lens free)) z
+      ∙ get_or-append-add (made fan h lens free t) (on k h t) q (no_cell fan one lens free)
       ∙ rw (
         o,
         higher_spot k h (room_of fan h t) (space_of fan h t) (fill fan h lens free t).0 q (rw o at l),
@@ -252,7 +252,7 @@ module _ (fan : ℕ) (one : 1 ≤ fan) (lens free : List ℕ) where
 
   -- the p-th new block of all
   pub grow_spot : (k h : ℕ) (t : Tree h) (p : ℕ) → p < length (grow_made fan k lens free h t)
-      → get_or (grow_made fan k lens free h t) p (noCell fan one lens free)
+      → get_or (grow_made fan k lens free h t) p (no_cell fan one lens free)
       ≡ (
         get_or free p past,
         new_cell fan (length lens) (sizes lens) free k h (spot fan h t p) (room_of fan h t) (space_of fan h t)

@@ -22,7 +22,7 @@ use Rattle.laws_resize.proofs.growth.Grow.{Ends, none, last, ends, over_last_las
 use Rattle.laws.proofs.Totals.{up_zero}
 use Rattle.laws_resize.proofs.growth.NewSubtreePlaces.{row_lens, row_full, row_at_lem, fresh_lens, fresh_full, fresh_at_lem}
 use Rattle.laws_resize.proofs.growth.Held.{made_row}
-use Rattle.laws_resize.proofs.growth.PthOfSubtree.{row_cells_at, row_found, at_found, row_most, fresh_most, none as noCell, some_row, up_pos}
+use Rattle.laws_resize.proofs.growth.PthOfSubtree.{row_cells_at, row_found, at_found, row_most, fresh_most, none as no_cell, some_row, up_pos}
 use Rattle.laws_resize.proofs.growth.Order.{made_follows}
 
 -- f of a last element
@@ -120,7 +120,7 @@ module _ (fan : ℕ) (one : 1 ≤ fan) where
 
     -- in a row of new subtrees
     pub row_spot : (h c i k q : ℕ) → c ≤ up (length lens - i) (fan ^ h) → q < length (row_cells_at fan one lens free h c i k)
-        → get_or (row_cells_at fan one lens free h c i k) q (noCell fan one lens free) ≡ spot_cell (in_row fan h i q) (k + q)
+        → get_or (row_cells_at fan one lens free h c i k) q (no_cell fan one lens free) ≡ spot_cell (in_row fan h i q) (k + q)
     unfolding in_row
     row_spot h c i k q few less =
         let a : k + q / bulk fan h * bulk fan h + q % bulk fan h ≡ k + q = omega (arith, div-add-mod' q (bulk fan h)) in
@@ -128,19 +128,19 @@ module _ (fan : ℕ) (one : 1 ≤ fan) where
 
     -- the p-th new block when a tree is filled
     abbrev Spot : ℕ → Type 0
-    Spot h = (t : Tree h) (p : ℕ) → p < length (made fan h lens free t) → get_or (made fan h lens free t) p (noCell fan one lens free)
+    Spot h = (t : Tree h) (p : ℕ) → p < length (made fan h lens free t) → get_or (made fan h lens free t) p (no_cell fan one lens free)
         ≡ spot_cell (spot fan h t p) p
 
     -- a filled row's block is one of the last child's, or in the new row
     spot_row : (h : ℕ) → Spot h → (c : ℕ) (x : Tree h) (p : ℕ) (row : List (ℕ × Cell))
         → row ≡ row_cells_at fan one lens free h (places fan (length lens) c h (room_of fan h x)) (room_of fan h x) (space_of fan h x)
         → p < length (made fan h lens free x) + length row → (b : Bool) → ltb p (length (made fan h lens free x)) ≡ b
-        → get_or (made fan h lens free x ++ row) p (noCell fan one lens free)
+        → get_or (made fan h lens free x ++ row) p (no_cell fan one lens free)
         ≡ spot_cell (pick (ltb p (space_of fan h x)) (spot fan h x p) (in_row fan h (room_of fan h x) (p - space_of fan h x))) p
     unfolding pick places
     spot_row h ih c x p row q less true e =
         let l : p < length (made fan h lens free x) = ltb-true p _ e in
-        get_or-append (made fan h lens free x) row (noCell fan one lens free) p l
+        get_or-append (made fan h lens free x) row (no_cell fan one lens free) p l
         ∙ ih x p l
         ∙ rw (lt-ltb p (space_of fan h x) (omega (arith, made_most fan h lens free x)))
     spot_row h ih c x p row q less false e =
@@ -155,13 +155,13 @@ module _ (fan : ℕ) (one : 1 ≤ fan) where
         let y : space_of fan h x + (p - space_of fan h x) ≡ p = omega arith in
         let n₀ : p - space_of fan h x < length row = omega arith in
         let n : p - space_of fan h x < length (row_cells_at fan one lens free h m r (space_of fan h x)) = rw q at n₀ in
-        ap (λ n. get_or (made fan h lens free x ++ row) n (noCell fan one lens free)) z
-        ∙ get_or-append-add (made fan h lens free x) row (p - space_of fan h x) (noCell fan one lens free)
+        ap (λ n. get_or (made fan h lens free x ++ row) n (no_cell fan one lens free)) z
+        ∙ get_or-append-add (made fan h lens free x) row (p - space_of fan h x) (no_cell fan one lens free)
         ∙ rw (q, row_spot h m r (space_of fan h x) (p - space_of fan h x) (omega arith) n, y, le-ltb p (space_of fan h x) (omega arith))
 
     -- in a block with no child
     spot_none : (h k p : ℕ) → p < length (made fan (suc h) lens free (k, []))
-        → get_or (made fan (suc h) lens free (k, [])) p (noCell fan one lens free) ≡ spot_cell (spot fan (suc h) (k, []) p) p
+        → get_or (made fan (suc h) lens free (k, [])) p (no_cell fan one lens free) ≡ spot_cell (spot fan (suc h) (k, []) p) p
     unfolding spot made of_end over_last up_to_last pick places
     spot_none h k p less =
         let m : ℕ = places fan (length lens) (fan - 0) h 0 in
@@ -172,7 +172,7 @@ module _ (fan : ℕ) (one : 1 ≤ fan) where
 
     -- in a row
     spot_next : (h : ℕ) → Spot h → (k : ℕ) (l : List (Tree h)) → Ends l → (p : ℕ) → p < length (made fan (suc h) lens free (k, l))
-        → get_or (made fan (suc h) lens free (k, l)) p (noCell fan one lens free) ≡ spot_cell (spot fan (suc h) (k, l) p) p
+        → get_or (made fan (suc h) lens free (k, l)) p (no_cell fan one lens free) ≡ spot_cell (spot fan (suc h) (k, l) p) p
     unfolding spot
     spot_next h ih k l none p less = spot_none h k p less
     spot_next h ih k l (last xs x) p less =

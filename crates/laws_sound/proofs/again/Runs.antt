@@ -213,7 +213,7 @@ audit_noted (refuses r) book = refl
 audit_noted (yields vs) book = refl
 
 -- length
-length_noted : (r : ℕ) (said : Said) (book : List (ℕ × ℕ)) → noted (run.tellLength r) said book ≡ book
+length_noted : (r : ℕ) (said : Said) (book : List (ℕ × ℕ)) → noted (run.tell_length r) said book ≡ book
 unfolding noted
 length_noted r (refuses q) book = refl
 length_noted r (yields vs) book = refl
@@ -240,7 +240,7 @@ call_booked e p S book k (run.resize r len) = resize_booked e S book k p r len (
 call_booked e p S book k (run.delete r) = delete_booked e S book k p r (delete_call e S.pool S.records r) refl
 call_booked e p S book k run.audit =
     rw audit_noted (quiet_booked e S book k _ (quiet_after e S (audit_call e S.pool S.records) (audit_quiet e S.pool S.records)))
-call_booked e p S book k (run.tellLength r) =
+call_booked e p S book k (run.tell_length r) =
     rw length_noted (quiet_booked e S book k _ (quiet_after e S (length_call e S.pool S.records r) (length_quiet e S.pool S.records r)))
 call_booked e p S book k (run.read r offset size) =
     rw read_noted (quiet_booked e S book k _

@@ -1,0 +1,33 @@
+-- The root's visit, then its row: each way out is a law of the root.
+use Rattle.check_blob.proofs.notes.RootVisited.{root_in_pool, root_in_records, root_in_flags, root_small, root_fault, root_leaf, root_row_lem, root_inner}
+use borrow.Author.Rules.{rules}
+use Rattle.check_blob.proofs.descent.visit_root.Goals as goal
+
+pub check_and_mark-checked-requires : goal.check_and_mark-checked-requires
+check_and_mark-checked-requires c = (search rules, ((search root_in_pool, search root_in_records), search root_in_flags))
+
+pub block_of-requires : goal.block_of-requires
+block_of-requires c = search root_in_pool
+
+pub note_leaf-requires : goal.note_leaf-requires
+note_leaf-requires c = search root_small
+
+pub returns-then-h-eq0 : goal.returns-then-h-eq0
+returns-then-h-eq0 c = search root_leaf
+
+pub visit_row-requires : goal.visit_row-requires
+visit_row-requires c =
+    let i = c in
+    let k = i in
+    let v = k in
+    let s = v in
+    record {
+      proper = search rules;
+      row_start = root_row_lem _ s.requires.0 _ _ _ _ _ s.requires.1 _ _ _ v.check_and_mark-checked.ensures (search rules) _ k.Block-of.ensures.0 _ k.count_of-count.ensures.0 i.if-h-eq0.false;
+    }
+
+pub returns-in-Faulty : goal.returns-in-Faulty
+returns-in-Faulty c = search root_fault
+
+pub returns-else-h-eq0 : goal.returns-else-h-eq0
+returns-else-h-eq0 c = search root_inner
