@@ -24,7 +24,8 @@ pub visit_block-returns-then-h-eq0 : goal.visit_block-returns-then-h-eq0
 visit_block-returns-then-h-eq0 t c = record { row_after = search (note_leaf, count_data); small = search leaf_small }
 
 pub visit_block-visit_row-requires : goal.visit_block-visit_row-requires
-visit_block-visit_row-requires t c = ?
+visit_block-visit_row-requires t c =
+    (omega arith, (search rules, row_start _ c.requires.proper _ _ _ _ _ _ _ _ _ _ c.requires.block_start _ _ c.visit-checked.ensures (search rules) _ c.block_of.ensures.0 _ c.count_of-count.ensures.0 c.if-h-eq0.false))
 
 pub visit_block-returns-in-Faulty : goal.visit_block-returns-in-Faulty
 visit_block-returns-in-Faulty t c = record { row_after = search note_fault; small = search small_fault }
@@ -36,7 +37,7 @@ pub visit_row-loop-left-init : goal.visit_row-loop-left-init
 visit_row-loop-left-init t c = (refl, search rules, refl, refl)
 
 pub visit_row-child_of-child-requires : goal.visit_row-child_of-child-requires
-visit_row-child_of-child-requires t c = (search rules, (search parent_in_pool, omega arith))
+visit_row-child_of-child-requires t c = record { proper = search rules; size_in_bounds = (search parent_in_pool, omega arith) }
 
 pub visit_row-visit_block-here-requires : goal.visit_row-visit_block-here-requires
 visit_row-visit_block-here-requires t c = (omega arith, (search rules, search child_start))

@@ -4,7 +4,7 @@ use borrow.Author.Rules.{rules}
 use Rattle.check_blob.proofs.descent.visit_root.Goals as goal
 
 pub check_and_mark-checked-requires : goal.check_and_mark-checked-requires
-check_and_mark-checked-requires c = (search rules, ((search root_in_pool, search root_in_records), search root_in_flags))
+check_and_mark-checked-requires c = record { proper = search rules; size_in_bounds = (search root_in_pool, search root_in_records); slot_in_bounds = search root_in_flags }
 
 pub block_of-requires : goal.block_of-requires
 block_of-requires c = search root_in_pool
@@ -17,13 +17,9 @@ returns-then-h-eq0 c = search root_leaf
 
 pub visit_row-requires : goal.visit_row-requires
 visit_row-requires c =
-    let i = c in
-    let k = i in
-    let v = k in
-    let s = v in
     record {
       proper = search rules;
-      row_start = root_row_lem _ s.requires.0 _ _ _ _ _ s.requires.1 _ _ _ v.check_and_mark-checked.ensures (search rules) _ k.Block-of.ensures.0 _ k.count_of-count.ensures.0 i.if-h-eq0.false;
+      row_start = root_row_lem _ c.requires.proper _ _ _ _ _ c.requires.block_start _ _ _ c.check_and_mark-checked.ensures (search rules) _ c.block_of.ensures.0 _ c.count_of-count.ensures.0 c.if-h-eq0.false;
     }
 
 pub returns-in-Faulty : goal.returns-in-Faulty
