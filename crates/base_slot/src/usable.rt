@@ -7,7 +7,7 @@ ghost use Rattle.base_slot.specs.usable.{usable_from, lowest_of, Added};
 use crate::{record, slot};
 
 // The lowest usable slot, or that there is none.
-#[derive(Drop)]
+#[derive(Clone, Copy, Drop)]
 pub enum Free {
     At(usize),
     Nowhere,

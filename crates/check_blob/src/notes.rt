@@ -5,7 +5,7 @@ ghost use Rattle.check_blob.specs.notes.{last_of};
 use meaning::Refusal;
 
 // What a walk finds: its first fault, or the bytes and the leaves so far.
-#[derive(Drop)]
+#[derive(Clone, Copy, Drop)]
 pub enum Walked {
     Fault(Refusal),
     Fine(u64, usize),

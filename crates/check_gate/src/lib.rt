@@ -12,7 +12,7 @@ use base_slot::{record, slot};
 use meaning::{Edition, Refusal};
 
 // Refusal 1 or 2, or the number of slots.
-#[derive(Drop)]
+#[derive(Clone, Copy, Drop)]
 pub enum Opened {
     Slots(usize),
     Refused(Refusal),

@@ -15,7 +15,7 @@ use check_gate::Opened;
 use meaning::{Edition, Refusal};
 
 // A refusal; or the blob: the number of slots, the blob's bytes and its leaves.
-#[derive(Drop)]
+#[derive(Clone, Copy, Drop)]
 pub enum Reached {
     Refused(Refusal),
     Blob(usize, u64, usize),

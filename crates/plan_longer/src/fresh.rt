@@ -13,7 +13,7 @@ use plan_slot::payload::Drawn;
 use plan_tree::subtrees;
 
 // A blob that gets longer: its new length, the leaves that it has, and those that it gets.
-#[derive(Drop)]
+#[derive(Clone, Copy, Drop)]
 pub struct Growth {
     pub length: usize,
     pub leaves: usize,

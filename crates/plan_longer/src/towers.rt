@@ -14,7 +14,7 @@ use plan_slot::payload::Drawn;
 use plan_tree::subtrees;
 
 // How high a blob is that gets longer and how high it will be; its blocks, and how many slots are taken.
-#[derive(Drop)]
+#[derive(Clone, Copy, Drop)]
 pub struct Tower {
     pub height: usize,
     pub top: usize,

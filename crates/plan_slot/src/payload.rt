@@ -12,7 +12,7 @@ use base_slot::usable;
 use meaning::Edition;
 
 // A block's height and count.
-#[derive(Drop)]
+#[derive(Clone, Copy, Drop)]
 pub struct Drawn {
     pub height: u8,
     pub count: u8,

@@ -7,7 +7,7 @@ ghost use Rattle.plan_slot.specs.turn.{turns};
 use base_slot::fields;
 
 // A slot stays as it is; or its block goes; or it is newly taken, or renewed, by a block of that height and count, whose payload is lent beside.
-#[derive(Drop)]
+#[derive(Clone, Copy, Drop)]
 pub enum Turn {
     Stays,
     Goes,

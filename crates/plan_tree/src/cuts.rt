@@ -3,7 +3,7 @@ ghost use Rattle.std.specs.Prelude.{◌≡◌};
 ghost use Rattle.plan_tree.specs.cuts.{gone_at};
 
 // A length that a blob is cut to, its leaves and its height.
-#[derive(Drop)]
+#[derive(Clone, Copy, Drop)]
 pub struct Cut {
     pub length: usize,
     pub leaves: usize,

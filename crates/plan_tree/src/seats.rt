@@ -6,7 +6,7 @@ ghost use Rattle.plan_tree.specs.seats.{Sits};
 use crate::{edge, subtrees};
 
 // Where a block stands: its height, and how many leaves lie before it.
-#[derive(Drop)]
+#[derive(Clone, Copy, Drop)]
 pub struct Seat {
     pub height: usize,
     pub first: usize,

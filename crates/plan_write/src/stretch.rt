@@ -10,7 +10,7 @@ use base_slot::{fields, slot};
 use meaning::Edition;
 
 // A stretch of a leaf's payload: count bytes, from `within` on, that come from `from` on in what is written.
-#[derive(Drop)]
+#[derive(Clone, Copy, Drop)]
 pub struct Stretch {
     pub within: usize,
     pub from: usize,

@@ -9,7 +9,7 @@ ghost use Rattle.rows_change.specs.change.{change_call};
 use meaning::Changed;
 
 // What is to become of a blob.
-#[derive(Drop)]
+#[derive(Clone, Copy, Drop)]
 pub enum Change {
     // Every block of it goes.
     Delete,

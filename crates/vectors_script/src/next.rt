@@ -3,7 +3,7 @@ use crate::text;
 use crate::text::Command;
 
 // Where the next command may start, where the label starts, and how long pool and records are.
-#[derive(Drop)]
+#[derive(Clone, Copy, Drop)]
 pub struct Place {
     pub at: usize,
     pub label: usize,

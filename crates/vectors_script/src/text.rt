@@ -1,7 +1,7 @@
 // Reading the script: bytes, numbers, line ends. Past the end there are line ends only.
 
 // A command: its name, its numbers, 0 for those that are not there, and where the text goes on.
-#[derive(Drop)]
+#[derive(Clone, Copy, Drop)]
 pub struct Command {
     pub name: u8,
     pub a: u64,
@@ -12,7 +12,7 @@ pub struct Command {
     pub next: usize,
 }
 
-#[derive(Drop)]
+#[derive(Clone, Copy, Drop)]
 struct Number {
     value: u64,
     next: usize,

@@ -1,0 +1,15 @@
+use Prim.Native.Nat.{◌-◌}
+use Rattle.check_pool.proofs.closing.ClosingBySteps.{closing_start, closing_end, closing_stop, closing_on}
+use Rattle.check_pool.proofs.closing.close.Goals as goal
+
+pub loop-i-init : goal.loop-i-init
+loop-i-init c = search closing_start
+
+pub returns-in_default : goal.returns-in_default
+returns-in_default c = search closing_stop
+
+pub loop-i-preserved : goal.loop-i-preserved
+loop-i-preserved c = search closing_on
+
+pub returns : goal.returns
+returns c = search closing_end
