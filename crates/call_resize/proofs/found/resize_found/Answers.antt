@@ -1,0 +1,24 @@
+-- The refusal's number with nothing changed, or the blob as it becomes.
+use Rattle.call_resize.proofs.found.FoundAnswered.{resize_barred_lem, resize_roomy, resize_done}
+use borrow.Author.Rules.{rules}
+use Rattle.call_resize.proofs.found.resize_found.Goals as goal
+
+pub barred-number-requires : goal.barred-number-requires
+barred-number-requires c = record { proper = search rules; records_len = search rules; leaves_bound = search rules }
+
+pub returns-then-number-ne0 : goal.returns-then-number-ne0
+returns-then-number-ne0 c = search resize_barred_lem
+
+pub resize_blob-requires : goal.resize_blob-requires
+resize_blob-requires c =
+    record {
+      proper = c.requires.proper;
+      roomy = resize_roomy _ _ _ _ _ _ _ _ _ c.requires.found _ _ c.list-free.ensures.value.0 _ c.barred-number.ensures c.if-number-ne0.false
+            c.requires.whole _ c.list-free.ensures.row_after _ c.leaf_count-want.ensures;
+      drafts = c.requires.drafts;
+    }
+
+pub returns : goal.returns
+returns c =
+    resize_done _ _ _ _ _ _ _ _ _ c.requires.found _ _ c.list-free.ensures.value.0 _ c.barred-number.ensures c.if-number-ne0.false _ _
+    c.resize_blob.ensures.pool_after c.resize_blob.ensures.records_after
