@@ -1,0 +1,6 @@
+-- The store's answer as numbers.
+use Rattle.answers.proofs.NumbersOfCalls.{audit_numbers_lem}
+use Rattle.tjornsaki.proofs.reads.tj_audit.Goals as goal
+
+pub returns : goal.returns
+returns c = search audit_numbers_lem
