@@ -7,7 +7,7 @@ use lib.Dec.{eqb}
 use lib.ListN.{length, get_or}
 use Rattle.meaning.specs.Lists.{pick}
 use Rattle.meaning.specs.Edition.{Proper}
-use Rattle.meaning.specs.Tree.{Blob, held, cells_of}
+use Rattle.meaning.specs.Tree.{held, cells_of}
 use Rattle.meaning.specs.Change.{Change, puts, changed, changed_by}
 use Rattle.meaning.specs.Calls.{done, slots_in, become, delete_on, delete_in, delete_call, after}
 use Rattle.meaning.specs.Answers.{change_answer, Ends}

@@ -1,6 +1,6 @@
 -- Document 01's numbers to try that are marked P, its whole one-slot example, a resize worked out slot by slot, and an example of each refusal; then
 -- child links, the last version, and reading heads. One statement over one list of cases, which computes. A case is data, read by the function `right` alone.
-use Rattle.std.specs.Prelude.{◌≡◌, refl, Bool, true, false, List, [], ◌∷◌, ◌++◌, map, ℕ, ◌+◌, ◌-◌, ◌^◌, eqb, replicate, set}
+use Rattle.std.specs.Prelude.{◌≡◌, refl, Bool, true, false, List, [], ◌∷◌, ◌++◌, map, ℕ, ◌-◌, ◌^◌, eqb, replicate, set}
 use Rattle.meaning.specs.Lists.{pick, both, part, pasted, joined, range, filter, all, of_last, map_last, only, same_list, zeros, number, bytes, padded, fours}
 use Rattle.meaning.specs.Edition.{one}
 use Rattle.meaning.specs.Bytes.{same_cell, item_bytes, header, block_bytes, encoded, block, height_of, count_of, own_slot, version_of, data_of, children_of, record_with, record_of, record_at, state_of, recorded_of, state, recorded, sound_record, last_version, usable_slot}

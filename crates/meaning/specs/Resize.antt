@@ -1,6 +1,6 @@
 -- What resize and write make of a blob, in the words of document 01 and in their order. Quoted words are the paper's, for any leaf and fan-out.
 -- The list `worked` in Cases.antt works one resize out, slot by slot.
-use Rattle.std.specs.Prelude.{Bool, true, false, List, [], ◌∷◌, ◌++◌, ℕ, zero, suc, ◌+◌, ◌-◌, ◌*◌, ◌^◌, min, leb, ltb, eqb, length, get_or, take, drop, replicate}
+use Rattle.std.specs.Prelude.{Bool, true, false, List, [], ◌∷◌, ◌++◌, ℕ, zero, suc, ◌-◌, ◌*◌, ◌^◌, min, leb, ltb, eqb, length, get_or, take, drop, replicate}
 use Rattle.meaning.specs.Lists.{pick, of_last, map_last, only, padded}
 use Rattle.meaning.specs.declared.Edition.{Edition}
 use Rattle.meaning.specs.Shape.{leaves_for}

@@ -2,7 +2,7 @@
 -- one sentence; crates/promises/proofs/Demands.antt shows all of them, as `demand-one`, `demand-two` and `demand-three`, of every proper edition.
 -- What call c answers on store S is `says e S c`: the number and values of the answer that the code gives, by the maps of Answers that `one_answer`
 -- speaks of, such as `lengthSaid (length_answer (length_call ..))`; a read's also has the bytes put in the output, show's the bytes shown.
-use Rattle.std.specs.Prelude.{◌≡◌, ◌↔◌, ◌⊎◌, true, false, ℕ, zero, suc, ◌+◌, ◌-◌, ◌*◌, ◌^◌, ◌≤◌, ◌<◌, length, get_or, take, replicate}
+use Rattle.std.specs.Prelude.{◌≡◌, ◌↔◌, ◌⊎◌, true, false, ℕ, zero, suc, ◌+◌, ◌-◌, ◌^◌, ◌≤◌, ◌<◌, length, get_or, take, replicate}
 use mathlib.Core.List.{List, [], ◌∷◌, ◌++◌, map, Memᴰ}
 use Rattle.meaning.specs.Lists.{part, pasted, padded}
 use Rattle.meaning.specs.Bytes.{Cell, encoded, block, record_at, record_of, state, recorded, sound_record, last_version}

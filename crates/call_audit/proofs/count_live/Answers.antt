@@ -1,5 +1,4 @@
 use borrow.Author.Rules.{rules}
-use Prim.Native.Nat.{◌-◌}
 use Rattle.call_audit.proofs.LiveCounted.{live_start, live_more, live_end}
 use Rattle.call_audit.proofs.count_live.Goals as goal
 

@@ -1,4 +1,3 @@
-use Prim.Native.Nat.{◌-◌}
 use Rattle.call_count.proofs.Counts.{counting_start, counting_fits, counting_on, counting_end, counting_most, clear_one}
 use Rattle.call_count.proofs.count_clearing.Goals as goal
 

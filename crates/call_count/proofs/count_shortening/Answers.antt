@@ -1,4 +1,3 @@
-use Prim.Native.Nat.{◌-◌}
 use Rattle.call_count.proofs.Counts.{counting_start, counting_fits, counting_on, counting_end, counting_most, cut_here}
 use borrow.Author.Rules.{rules}
 use Rattle.call_count.proofs.count_shortening.Goals as goal

@@ -1,4 +1,3 @@
-use Prim.Native.Nat.{◌-◌}
 use Rattle.call_count.proofs.Counts.{counting_start, counting_fits, counting_on, counting_end, counting_most, write_place, write_counted}
 use borrow.Author.Rules.{rules}
 use Rattle.call_count.proofs.count_writing.Goals as goal

@@ -1,4 +1,3 @@
-use Prim.Native.Nat.{◌-◌}
 use Rattle.call_head.proofs.HandedOut.{nothing_handed, nothing_copied, copy_starts, out_length, copy_goes, copied_more, copied_all, count_handed}
 use borrow.Author.Rules.{rules}
 use Rattle.call_head.proofs.next_call.Goals as goal

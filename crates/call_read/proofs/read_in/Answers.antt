@@ -6,11 +6,11 @@ use Rattle.call_read.proofs.read_in.Goals as goal
 
 pub read_found-requires : goal.read_found-requires
 read_found-requires c = record {
-      proper = search rules;
-      k_in_bounds = (search found_length, search rules);
-      readable = search found_readable;
-      bytes_value = search found_bytes;
-    }
+  proper = search rules;
+  k_in_bounds = (search found_length, search rules);
+  readable = search found_readable;
+  bytes_value = search found_bytes;
+}
 
 pub returns-in-Fault : goal.returns-in-Fault
 returns-in-Fault c = search read_refused

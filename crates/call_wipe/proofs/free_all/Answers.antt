@@ -1,5 +1,4 @@
 use borrow.Author.Rules.{rules}
-use Prim.Native.Nat.{◌-◌}
 use Rattle.call_wipe.proofs.WipedSoFar.{free_start, free_on, free_end}
 use Rattle.call_wipe.proofs.free_all.Goals as goal
 

@@ -1,5 +1,4 @@
 use Rattle.check_gate.proofs.BehindTheGate.{records_start}
-use Prim.Native.Nat.{◌-◌}
 use Rattle.check_gate.proofs.BehindTheGate.{records_end, records_bad, records_good}
 use Rattle.check_gate.proofs.check_records.Goals as goal
 

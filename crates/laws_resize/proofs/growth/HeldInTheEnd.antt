@@ -1,12 +1,12 @@
 -- What each slot holds after growth, in the end: the facts that a loop over the slots needs.
 use mathlib.Core.Path.{◌≡◌, refl, sym, ap, ◌∙◌}
 use mathlib.Core.List.{List, [], ◌∷◌}
-use Prim.Native.Nat.{ℕ, zero, suc, ◌+◌, ◌-◌, ◌^◌, ◌≤◌, ◌<◌}
+use Prim.Native.Nat.{ℕ, zero, suc, ◌+◌, ◌^◌, ◌≤◌, ◌<◌}
 use native.Mathlib.Omega.{arith}
 use lib.ListN.{length, get_or, drop}
 use borrow.Author.Tests.{eq-eqb, ne_eqb}
 use Rattle.laws_resize.specs.growth.Forms.{past, root_cell, new_cell}
-use Rattle.laws_resize.specs.growth.Place.{sizes, at}
+use Rattle.laws_resize.specs.growth.Place.{sizes}
 use Rattle.laws_resize.specs.growth.Spot.{spot, room_of, space_of, edge_cell}
 use Rattle.meaning.specs.Lists.{pick}
 use Rattle.meaning.specs.Bytes.{Cell}

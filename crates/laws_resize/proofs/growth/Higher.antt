@@ -16,7 +16,7 @@ use Rattle.laws_resize.specs.growth.Spot.{spot, room_of, space_of}
 use Rattle.meaning.specs.Lists.{pick}
 use Rattle.meaning.specs.Bytes.{Cell}
 use Rattle.meaning.specs.Shape.{up}
-use Rattle.meaning.specs.Tree.{Tree, slot_of, at_slot}
+use Rattle.meaning.specs.Tree.{Tree}
 use Rattle.laws.proofs.TreeSlots.{moved_slot}
 use Rattle.laws_resize.specs.growth.Grow.{items_of, fresh, fill, wider}
 use Rattle.laws_resize.specs.growth.Made.{top_of, made, higher_made, grow_made}

@@ -4,7 +4,7 @@
 use mathlib.Core.Path.{◌≡◌, refl, sym, ap, ◌∙◌}
 use mathlib.Core.Bool.{Bool, true}
 use mathlib.Core.List.{List, [], ◌∷◌, ◌++◌, map}
-use Prim.Native.Nat.{ℕ, zero, suc, ◌+◌, ◌<◌, min}
+use Prim.Native.Nat.{ℕ, zero, suc, ◌<◌, min}
 use native.Mathlib.Omega.{arith}
 use lib.Dec.{eqb}
 use lib.ListN.{length, get_or, drop, set, length-set}
@@ -15,7 +15,7 @@ use Rattle.meaning.specs.declared.Role.{Role}
 use Rattle.meaning.specs.declared.Role.TheVariants.{Root, Child}
 use Rattle.meaning.specs.Lists.{both, joined}
 use Rattle.meaning.specs.Bytes.{block, height_of, children_of, state}
-use Rattle.meaning.specs.Tree.{Tree, Blob, slot_of, root_of, cells_of, slots_of, nothing, held}
+use Rattle.meaning.specs.Tree.{Tree, Blob, cells_of, slots_of, nothing, held}
 use Rattle.meaning.specs.Walk.{fine, is_empty, visit_row, visit, from_root}
 use Rattle.laws.proofs.Inversions.{by_test, passed_linked}
 use Rattle.laws.proofs.Walked.{leaf_found, inner_found, none_found, row_found, root_found}

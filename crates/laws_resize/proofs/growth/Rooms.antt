@@ -8,7 +8,6 @@ use native.Mathlib.Nat.{pow-zero, pow-suc, one-le-pow, mul-add-div, mul-add-mod_
 use native.Mathlib.Omega.{arith}
 use lib.ListN.{length, length-append}
 use Rattle.laws_resize.specs.growth.Forms.{last_children, room, space, seat}
-use Rattle.laws_resize.specs.growth.Place.{at}
 use Rattle.laws_resize.specs.growth.Spot.{room_of, space_of, spot}
 use Rattle.meaning.specs.declared.Edition.{Edition}
 use Rattle.meaning.specs.Lists.{joined}

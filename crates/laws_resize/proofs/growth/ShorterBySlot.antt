@@ -17,7 +17,7 @@ use Rattle.meaning.specs.Edition.{Proper}
 use Rattle.meaning.specs.Bytes.{Cell}
 use Rattle.meaning.specs.Tree.{Tree, Blob, slot_of, at_slot, leaves, cells, root_of}
 use Rattle.meaning.specs.Tree.{content_of, leaves_of, cells_of, slots_of, length_of, nothing, just, held}
-use Rattle.meaning.specs.Shape.{up, leaves_for, height_for, least_count, most_count, InRow, ShapedTree, Shaped}
+use Rattle.meaning.specs.Shape.{up, leaves_for, height_for, most_count, InRow, ShapedTree, Shaped}
 use Rattle.meaning.specs.Resize.{last_leaf, share, last_bytes, keep_row, keep, lower, shorter}
 use Rattle.laws.proofs.Inversions.{by_test, both_false}
 use Rattle.laws.proofs.Totals.{up_gt, leaves_some, leaves_mono, leaves_fit}
@@ -27,7 +27,7 @@ use Rattle.laws.proofs.Positions.{leaf_full, length_by_last, stretch_at}
 use Rattle.laws_resize.proofs.resizing.Last.{last_slot}
 use Rattle.laws_resize.proofs.resizing.Keeping.{keep_slot}
 use Rattle.laws_resize.specs.growth.Room.{count}
-use Rattle.laws_resize.specs.growth.Sites.{Site, counting, sites, sites_of, at, sited, entry, ruled, held_by, Once}
+use Rattle.laws_resize.specs.growth.Sites.{Site, counting, sites, sites_of, sited, entry, ruled, held_by, Once}
 use Rattle.laws_resize.specs.growth.Cuts.{cut_row, gone, cut, height_of_length, replaced, shortened, of_first, leftmost}
 use Rattle.laws_resize.proofs.growth.Sites.{ruled_append, held_ruled, site_slots}
 use Rattle.laws_resize.proofs.growth.Cut.{row_count, keep_first, stay, full_count, last_data, cut_row_lem, cut_tree}

@@ -10,7 +10,7 @@ use borrow.Author.Tests.{eqb-true, eqb-false, ne_eqb}
 use Rattle.meaning.specs.Lists.{pick, joined}
 use Rattle.meaning.specs.Bytes.{Cell}
 use Rattle.meaning.specs.Tree.{Tree, Blob, slot_of, leaves, cells, cells_of, slots_of, Held, nothing, just, held}
-use Rattle.laws_resize.specs.growth.Sites.{Site, counting, sites, sites_of, at, sited, entry, ruled, held_by, same, Lacks, Once}
+use Rattle.laws_resize.specs.growth.Sites.{Site, counting, sites, sites_of, sited, entry, ruled, held_by, same, Lacks, Once}
 use Rattle.laws.proofs.Inversions.{by_test}
 
 -- a rule on sites side by side

@@ -1,15 +1,15 @@
 -- How often a slot stands in a list: what a resize takes and gives back is told by these counts. A tree that grows
 -- takes the first free slots, as many as it has blocks more; what grows twice takes them one part after the other.
 use mathlib.Core.Path.{◌≡◌, refl, sym, ap, ◌∙◌}
-use mathlib.Core.List.{List, [], ◌∷◌, ◌++◌, map, map-append, Memᴰ}
-use Prim.Native.Nat.{ℕ, zero, suc, ◌+◌, ◌≤◌}
+use mathlib.Core.List.{List, [], ◌∷◌, ◌++◌, Memᴰ}
+use Prim.Native.Nat.{ℕ, suc, ◌+◌, ◌≤◌}
 use native.Mathlib.Omega.{arith}
 use lib.Dec.{eqb}
 use lib.ListN.{length, length-append, length-drop, take, drop}
 use lib.Seq.{drop-drop, take-add}
 use borrow.Author.Tests.{eq-eqb, eqb-true}
-use Rattle.meaning.specs.Lists.{pick, joined}
-use Rattle.meaning.specs.Tree.{Tree, Blob, slot_of, at_slot, cells, cells_of, slots_of, length_of}
+use Rattle.meaning.specs.Lists.{pick}
+use Rattle.meaning.specs.Tree.{Tree, Blob, slots_of, length_of}
 use Rattle.meaning.specs.declared.Edition.{Edition}
 use Rattle.meaning.specs.Shape.{leaves_for, total, Shaped}
 use Rattle.laws.proofs.Shapes.{shaped_leaves, shaped_slots}

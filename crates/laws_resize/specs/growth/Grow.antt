@@ -1,6 +1,6 @@
 -- The tree after many leaves are added, each new block made once, whole.
 -- A function that takes leaf lengths and free slots gives what it made, the lengths left and the slots left.
-use Rattle.std.specs.Prelude.{List, [], ◌∷◌, ◌++◌, ℕ, zero, suc, ◌+◌, ◌-◌, length, get_or, drop, replicate}
+use Rattle.std.specs.Prelude.{List, [], ◌∷◌, ◌++◌, ℕ, zero, suc, ◌-◌, length, get_or, drop, replicate}
 use Rattle.laws_resize.specs.growth.Forms.{past}
 use Rattle.meaning.specs.Tree.{Tree, Blob, at_slot, slot_of}
 

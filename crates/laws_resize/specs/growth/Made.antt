@@ -1,5 +1,5 @@
 -- The cells of a grown tree, the new ones in the order of creation, the old ones in walk order.
-use Rattle.std.specs.Prelude.{List, [], ◌∷◌, ◌++◌, map, ℕ, zero, suc, ◌+◌, ◌-◌, length, get_or, drop}
+use Rattle.std.specs.Prelude.{List, [], ◌∷◌, ◌++◌, map, ℕ, zero, suc, ◌-◌, length, get_or, drop}
 use Rattle.meaning.specs.Lists.{joined}
 use Rattle.meaning.specs.Bytes.{Cell}
 use Rattle.meaning.specs.Tree.{Tree, cells, slot_of}

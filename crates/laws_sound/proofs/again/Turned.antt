@@ -15,7 +15,7 @@ use Rattle.meaning.specs.Shape.{most_count, leaves_for, total}
 use Rattle.meaning.specs.Tree.{Blob, root_of, content_of, cells_of, slots_of, length_of}
 use Rattle.meaning.specs.Change.{Change, Store, changed_by}
 use Rattle.meaning.specs.Resize.{refilled, resized}
-use Rattle.meaning.specs.Calls.{done, slots_in, sized, usable, write_call, write_in, write_on}
+use Rattle.meaning.specs.Calls.{done, slots_in, usable, write_call, write_in, write_on}
 use Rattle.meaning.specs.Calls.{resize_call, resize_in, resize_on, new_blocks, refuse_full, refuse_past}
 use Rattle.laws.proofs.Parts.{pasted_length}
 use Rattle.laws_resize.proofs.resizing.SlotCounts.{times, slots_for}

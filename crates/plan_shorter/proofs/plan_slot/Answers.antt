@@ -9,11 +9,11 @@ returns-then-heights-i-eq0 c = record { by_index = search plan_other; rising = s
 
 pub plan_kept-requires : goal.plan_kept-requires
 plan_kept-requires c = record {
-      proper = search rules;
-      cuts = search rules;
-      payload_len = (search rules, search rules, search rules, search none_few);
-      len = search rules;
-    }
+  proper = search rules;
+  cuts = search rules;
+  payload_len = (search rules, search rules, search rules, search none_few);
+  len = search rules;
+}
 
 pub returns-then-i-root : goal.returns-then-i-root
 returns-then-i-root c = record { by_index = search plan_root; rising = search noted_rising }
@@ -23,11 +23,11 @@ returns-then-is_gone c = record { by_index = search plan_gone; rising = search g
 
 pub plan_kept-requires-2 : goal.plan_kept-requires-2
 plan_kept-requires-2 c = record {
-      proper = search rules;
-      cuts = search rules;
-      payload_len = (search rules, search rules, search here_power, search rules);
-      len = (search rules, search rules, search here_most);
-    }
+  proper = search rules;
+  cuts = search rules;
+  payload_len = (search rules, search rules, search here_power, search rules);
+  len = (search rules, search rules, search here_most);
+}
 
 pub returns : goal.returns
 returns c = record { by_index = search plan_old; rising = search noted_rising }

@@ -1,5 +1,4 @@
 use mathlib.Core.Path.{refl, sym}
-use Prim.Native.Nat.{◌-◌}
 use native.Mathlib.Nat.{div-one}
 use borrow.Author.Rules.{rules}
 use Rattle.meaning.specs.Lists.{bytes}

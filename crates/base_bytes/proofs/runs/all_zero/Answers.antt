@@ -1,5 +1,4 @@
 use mathlib.Core.Path.{refl}
-use Prim.Native.Nat.{◌-◌}
 use native.Mathlib.Omega.{arith}
 use Rattle.laws.proofs.Parts.{zeros_end, zeros_stop, zeros_more}
 use Rattle.base_bytes.proofs.runs.Zeros.{eight_stop, eight_more}

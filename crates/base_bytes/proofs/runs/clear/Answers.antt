@@ -1,4 +1,3 @@
-use Prim.Native.Nat.{◌-◌}
 use borrow.Author.Rules.{rules}
 use Rattle.laws.proofs.Parts.{cleared_more, cleared_whole}
 use Rattle.base_bytes.proofs.runs.clear.Goals as goal

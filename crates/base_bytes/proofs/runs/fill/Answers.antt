@@ -1,5 +1,4 @@
 use mathlib.Core.Path.{refl}
-use Prim.Native.Nat.{◌-◌}
 use borrow.Author.Rules.{rules}
 use Rattle.meaning.specs.Lists.{part}
 use Rattle.laws.proofs.Parts.{copied_more, copied_whole}

@@ -1,9 +1,8 @@
 -- `base_shape::shape::block_total` meets its contract: where the sheet has a row, by the sheet; everywhere else the definition has the same rule, and a share
 -- is less, so that the calls end; three blocks for each leaf or fewer fit 64 bits.
 use mathlib.Core.Path.{◌≡◌}
-use Prim.Native.Nat.{ℕ, ◌<◌}
+use Prim.Native.Nat.{ℕ}
 use native.Mathlib.Omega.{arith}
-use borrow.Author.Rules.{rules}
 use Rattle.meaning.specs.Shape.{up, total}
 use Rattle.laws.proofs.Totals.{up_falls, total_small, total_more, total_le}
 use Rattle.base_shape.proofs.shape.+block_total.Goals as goal

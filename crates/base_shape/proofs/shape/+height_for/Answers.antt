@@ -1,7 +1,6 @@
 -- `base_shape::shape::height_for` meets its contract: the height of n leaves is one above that of their share, which is less, so that the calls end.
-use Prim.Native.Nat.{ℕ, ◌≤◌, ◌<◌}
+use Prim.Native.Nat.{◌≤◌}
 use native.Mathlib.Omega.{arith}
-use borrow.Author.Rules.{rules}
 use Rattle.meaning.specs.Shape.{up}
 use Rattle.laws.proofs.Totals.{up_falls}
 use Rattle.laws.proofs.Heights.{height_small, height_more}

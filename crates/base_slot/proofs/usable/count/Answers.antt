@@ -1,5 +1,4 @@
 use borrow.Author.Rules.{rules}
-use Prim.Native.Nat.{◌-◌}
 use Rattle.base_slot.proofs.usable.UsableInOrder.{count_start, count_more, count_end}
 use Rattle.base_slot.proofs.usable.count.Goals as goal
 

@@ -1,5 +1,4 @@
 use borrow.Author.Rules.{rules}
-use Prim.Native.Nat.{◌-◌}
 use Rattle.base_slot.proofs.usable.UsableInOrder.{list_start, list_more, list_end, list_count}
 use Rattle.base_slot.proofs.usable.list.Goals as goal
 

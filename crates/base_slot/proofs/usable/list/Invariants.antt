@@ -1,7 +1,7 @@
 -- The loop's invariant: the front of the row and the usable slots that are left make up all.
 use mathlib.Core.Path.{◌≡◌}
 use mathlib.Core.List.{◌++◌}
-use Prim.Native.Nat.{◌+◌, ◌-◌, ◌≤◌}
+use Prim.Native.Nat.{◌-◌, ◌≤◌}
 use lib.ListN.{length, take}
 use Rattle.base_slot.specs.usable.{usable_from}
 use Rattle.base_slot.proofs.usable.list.Given as goal

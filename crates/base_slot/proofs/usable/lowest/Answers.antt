@@ -1,4 +1,3 @@
-use Prim.Native.Nat.{◌-◌}
 use Rattle.base_slot.proofs.usable.UsableInOrder.{lowest_start, lowest_none, lowest_here, lowest_on}
 use Rattle.base_slot.proofs.usable.lowest.Goals as goal
 

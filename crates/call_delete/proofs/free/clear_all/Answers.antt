@@ -1,5 +1,4 @@
 use borrow.Author.Rules.{rules}
-use Prim.Native.Nat.{◌-◌}
 use Rattle.plan_slot.proofs.change.SlotLoop.{turning_start, pool_turned, records_turned}
 use Rattle.call_delete.proofs.free.FreedSoFar.{clear_whole, clear_turn}
 use Rattle.call_delete.proofs.free.clear_all.Goals as goal

@@ -1,4 +1,3 @@
-use Prim.Native.Nat.{◌-◌}
 use Rattle.call_head.proofs.copy.Rows.{row_starts, row_same, row_goes, row_more, row_done, along_starts, along_more, row_begun, row_parent}
 use borrow.Author.Rules.{rules}
 use Rattle.call_head.proofs.copy.copy_row.Goals as goal

@@ -1,6 +1,5 @@
 use borrow.Author.Rules.{rules}
 use mathlib.Core.Path.{refl}
-use Prim.Native.Nat.{◌-◌}
 use Rattle.call_read.proofs.copy.Stretches.{still_reading, copied_start, copied_all}
 use Rattle.call_read.proofs.copy.read_at.Goals as goal
 

@@ -1,5 +1,4 @@
 use native.Mathlib.Omega.{arith}
-use Prim.Native.Nat.{◌-◌}
 use Rattle.plan_slot.proofs.change.SlotLoop.{turning_start, pool_turned, records_turned}
 use Rattle.call_reshape.proofs.longer_slots.TurnsAsPlanned.{below_start, here_now, line_now, grow_turn, below_turn}
 use borrow.Author.Rules.{rules}
@@ -13,18 +12,17 @@ is_usable-requires c = search line_now
 
 pub grow_slot-requires : goal.grow_slot-requires
 grow_slot-requires c = record {
-      proper = search rules;
-      grows = search rules;
-      towers = search rules;
-      root_block = search rules;
-      here = search here_now;
-      payload_len = (search rules, search rules);
-    }
+  proper = search rules;
+  grows = search rules;
+  towers = search rules;
+  root_block = search rules;
+  here = search here_now;
+  payload_len = (search rules, search rules);
+}
 
 pub loop-i-preserved : goal.loop-i-preserved
 loop-i-preserved c =
-    let inv = c.loop-i.invariant in
-    (
+    let inv = c.loop-i.invariant in (
       grow_turn _ _ _ _ _ _ _ _ _ _ _ _ _ _ inv.0 c.requires.whole c.loop-i-test.true _ inv.1 _ _
           c.grow_slot.ensures.pool_after c.grow_slot.ensures.records_after,
       below_turn _ _ _ _ _ _ _ _ _ _ _ _ _ _ inv.0 _ inv.1 _ c.is_usable.ensures _ c.one_if-more.ensures.0,

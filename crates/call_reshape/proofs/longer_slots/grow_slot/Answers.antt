@@ -5,13 +5,13 @@ use Rattle.call_reshape.proofs.longer_slots.grow_slot.Goals as goal
 
 pub plan_slot-turn-requires : goal.plan_slot-turn-requires
 plan_slot-turn-requires c = record {
-      proper = search rules;
-      grows = search rules;
-      towers = search rules;
-      root_block = search rules;
-      here = search rules;
-      payload_len = search rules;
-    }
+  proper = search rules;
+  grows = search rules;
+  towers = search rules;
+  root_block = search rules;
+  here = search rules;
+  payload_len = search rules;
+}
 
 pub carry_out-requires : goal.carry_out-requires
 carry_out-requires c =

@@ -11,14 +11,14 @@ overflow_sub-g c = search long_more
 
 pub grow-requires : goal.grow-requires
 grow-requires c = record {
-      proper = search rules;
-      grows = search long_grows;
-      towers = search long_towers;
-      root_block = search long_root;
-      whole = search long_whole;
-      all_here = search long_here;
-      kept_len = (search rules, search rules, search rules, search long_within);
-    }
+  proper = search rules;
+  grows = search long_grows;
+  towers = search long_towers;
+  root_block = search long_root;
+  whole = search long_whole;
+  all_here = search long_here;
+  kept_len = (search rules, search rules, search rules, search long_within);
+}
 
 pub returns : goal.returns
 returns c =

@@ -11,11 +11,11 @@ block_of-requires c = search short_place
 
 pub cut_blob-requires : goal.cut_blob-requires
 cut_blob-requires c = record {
-      proper = search rules;
-      cut_start = search short_start;
-      h_value = search height_read;
-      kept_len = (search rules, search rules, search rules);
-    }
+  proper = search rules;
+  cut_start = search short_start;
+  h_value = search height_read;
+  kept_len = (search rules, search rules, search rules);
+}
 
 pub returns : goal.returns
 returns c = record { pool_after = search short_pool; records_after = search short_records }

@@ -14,7 +14,7 @@ resize_blob-requires c =
     record {
       proper = c.requires.proper;
       roomy = resize_roomy _ _ _ _ _ _ _ _ _ c.requires.found _ _ c.list-free.ensures.value.0 _ c.barred-number.ensures c.if-number-ne0.false
-            c.requires.whole _ c.list-free.ensures.row_after _ c.leaf_count-want.ensures;
+          c.requires.whole _ c.list-free.ensures.row_after _ c.leaf_count-want.ensures;
       drafts = c.requires.drafts;
     }
 

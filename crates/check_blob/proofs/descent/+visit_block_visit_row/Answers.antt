@@ -5,7 +5,6 @@ use Rattle.check_blob.proofs.notes.WalkAsDefined.{note_fault, note_leaf, note_in
 use borrow.Author.Rules.{rules}
 use native.Mathlib.Omega.{arith}
 use mathlib.Core.Path.{refl}
-use Rattle.meaning.specs.Bytes.{block}
 use Rattle.check_blob.proofs.descent.+visit_block_visit_row.Goals as goal
 
 pub visit_block-block_of-requires : goal.visit_block-block_of-requires

@@ -1,4 +1,3 @@
-use Prim.Native.Nat.{◌-◌}
 use Rattle.check_pool.proofs.closing.ClosingBySteps.{closing_start, closing_end, closing_stop, closing_on}
 use Rattle.check_pool.proofs.closing.close.Goals as goal
 

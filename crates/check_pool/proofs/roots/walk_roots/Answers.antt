@@ -1,7 +1,6 @@
 use Rattle.check_pool.proofs.roots.RootsBySteps.{sized_again}
 use borrow.Author.Rules.{rules}
 use mathlib.Core.Path.{refl}
-use Prim.Native.Nat.{◌-◌}
 use Rattle.check_pool.proofs.roots.RootsBySteps.{roots_start, roots_end, roots_stop, roots_on}
 use Rattle.check_pool.proofs.roots.walk_roots.Goals as goal
 

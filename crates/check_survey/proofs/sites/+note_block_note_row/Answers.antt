@@ -5,7 +5,6 @@ use Rattle.check_survey.proofs.sites.Bounds.{in_heights, in_firsts, few_enough, 
 use borrow.Author.Rules.{rules}
 use native.Mathlib.Omega.{arith}
 use mathlib.Core.Path.{refl}
-use Rattle.meaning.specs.Bytes.{block}
 use Rattle.check_survey.proofs.sites.+note_block_note_row.Goals as goal
 
 pub note_block-note_slot-requires : goal.note_block-note_slot-requires

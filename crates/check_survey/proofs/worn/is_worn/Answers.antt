@@ -1,4 +1,3 @@
-use Prim.Native.Nat.{◌-◌}
 use Rattle.check_survey.proofs.worn.WornSoFar.{worn_start, worn_here, worn_on, worn_none}
 use Rattle.check_survey.proofs.worn.is_worn.Goals as goal
 

@@ -22,19 +22,19 @@ edge_seat-s-requires c = (search rules, search own_fits, search rules, search ne
 
 pub draw_fresh-requires : goal.draw_fresh-requires
 draw_fresh-requires c = record {
-      proper = search rules;
-      grows = search rules;
-      payload_len = (search rules, search edge_low, search edge_power, search edge_first, search new_small);
-    }
+  proper = search rules;
+  grows = search rules;
+  payload_len = (search rules, search edge_low, search edge_power, search edge_first, search new_small);
+}
 
 pub returns-then-number-bulk : goal.returns-then-number-bulk
 returns-then-number-bulk c = search new_edge
 
 pub draw_risen-requires : goal.draw_risen-requires
 draw_risen-requires c = record {
-      proper = search rules;
-      grows = search rules;
-      towers = search rules;
-      root_block = search rules;
-      payload_len = (search rules, search rules, search rules, search rules);
-    }
+  proper = search rules;
+  grows = search rules;
+  towers = search rules;
+  root_block = search rules;
+  payload_len = (search rules, search rules, search rules, search rules);
+}

@@ -13,11 +13,11 @@ returns-then-h-eq0 c = search grown_lowest
 
 pub grown_inner-requires : goal.grown_inner-requires
 grown_inner-requires c = record {
-      proper = search rules;
-      grows = search rules;
-      payload_len = (search rules, search rules, search low_power);
-      block_len = (search rules, search inner_most);
-    }
+  proper = search rules;
+  grows = search rules;
+  payload_len = (search rules, search rules, search low_power);
+  block_len = (search rules, search inner_most);
+}
 
 pub returns : goal.returns
 returns c = search grown_higher

@@ -15,12 +15,12 @@ bulk-full-requires c = (search rules, search level_power)
 
 pub draw_top-requires : goal.draw_top-requires
 draw_top-requires c = record {
-      proper = search rules;
-      grows = search rules;
-      towers = search rules;
-      root_block = search rules;
-      payload_len = (search rules, search rules, search rules);
-    }
+  proper = search rules;
+  grows = search rules;
+  towers = search rules;
+  root_block = search rules;
+  payload_len = (search rules, search rules, search rules);
+}
 
 pub returns-then-number-full : goal.returns-then-number-full
 returns-then-number-full c = search new_moved
@@ -36,10 +36,10 @@ in_row-s-requires c = (search rules, search level_power, search level_room, sear
 
 pub draw_fresh-requires : goal.draw_fresh-requires
 draw_fresh-requires c = record {
-      proper = search rules;
-      grows = search rules;
-      payload_len = (search rules, search seat_low, search seat_power, search side_first, search new_small);
-    }
+  proper = search rules;
+  grows = search rules;
+  payload_len = (search rules, search seat_low, search seat_power, search side_first, search new_small);
+}
 
 pub returns : goal.returns
 returns c =

@@ -6,11 +6,11 @@ use Rattle.plan_longer.proofs.towers.draw_top.Goals as goal
 
 pub draw_grown-requires : goal.draw_grown-requires
 draw_grown-requires c = record {
-      proper = search rules;
-      grows = search rules;
-      payload_len = (search rules, search own_low, search own_power, search rules);
-      block_len = (search rules, search own_most, search own_share);
-    }
+  proper = search rules;
+  grows = search rules;
+  payload_len = (search rules, search own_low, search own_power, search rules);
+  block_len = (search rules, search own_most, search own_share);
+}
 
 pub returns-then-level-t : goal.returns-then-level-t
 returns-then-level-t c = search root_own

@@ -13,10 +13,10 @@ returns-then-h-eq0 c = search cut_lowest
 
 pub cut_inner-requires : goal.cut_inner-requires
 cut_inner-requires c = record {
-      proper = search rules;
-      payload_len = (search rules, search rules, search low_power, search rules);
-      block_len = (search rules, search inner_most);
-    }
+  proper = search rules;
+  payload_len = (search rules, search rules, search low_power, search rules);
+  block_len = (search rules, search inner_most);
+}
 
 pub returns : goal.returns
 returns c = search cut_higher

@@ -1,5 +1,4 @@
 use borrow.Author.Rules.{rules}
-use Prim.Native.Nat.{◌-◌}
 use Rattle.plan_slot.proofs.keep.LeftEdgeFound.{some_fan, below_start, below_fits, below_next, below_done}
 use Rattle.plan_slot.proofs.keep.left_slot.Goals as goal
 

@@ -1,4 +1,3 @@
-use Prim.Native.Nat.{◌-◌}
 use borrow.Author.Rules.{rules}
 use Rattle.plan_slot.proofs.payload.SlotsPutIn.{put_none, put_more, put_all}
 use Rattle.plan_slot.proofs.payload.put_slots.Goals as goal

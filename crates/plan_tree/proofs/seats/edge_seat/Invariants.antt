@@ -1,7 +1,7 @@
 -- `plan_tree::seats::edge_seat` meets its contract. The loop's invariant: the block stands where the definition has it at this height, for it lies below the
 -- last child of each block above.
 use mathlib.Core.Path.{◌≡◌}
-use Prim.Native.Nat.{◌-◌, ◌≤◌}
+use Prim.Native.Nat.{◌≤◌}
 use Rattle.laws_resize.specs.growth.Forms.{seat}
 use Rattle.plan_tree.proofs.seats.edge_seat.Given as goal
 

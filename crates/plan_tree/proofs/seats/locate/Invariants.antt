@@ -1,6 +1,5 @@
 -- `plan_tree::seats::locate` meets its contract. The loop's invariant: the block is near, as the law says; so the leaves before it are no more than the
 -- blocks before it.
-use Prim.Native.Nat.{◌-◌}
 use Rattle.plan_tree.proofs.seats.SeatsFromBelow.{Nears}
 use Rattle.plan_tree.proofs.seats.locate.Given as goal
 

@@ -1,5 +1,4 @@
 use mathlib.Core.Path.{◌≡◌, refl, ap, ◌∙◌}
-use Prim.Native.Nat.{◌-◌}
 use native.Mathlib.Omega.{arith}
 use Rattle.laws_resize.specs.growth.Forms.{bulk}
 use Rattle.plan_tree.proofs.subtrees.SubtreesFromBelow.{bulk_none, bulk_next, bulk_few, next_few}

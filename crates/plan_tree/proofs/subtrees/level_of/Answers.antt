@@ -1,4 +1,4 @@
-use Prim.Native.Nat.{◌+◌, ◌-◌}
+use Prim.Native.Nat.{◌+◌}
 use native.Mathlib.Omega.{arith}
 use Rattle.plan_tree.proofs.subtrees.SubtreesFromBelow.{pow_rises, bulk_next, next_few, level_less, level_found}
 use Rattle.plan_tree.proofs.subtrees.level_of.Goals as goal

@@ -11,10 +11,10 @@ returns-then-count-eq0 c = record { pool_after = search pool_stays; records_afte
 
 pub store_leaf-requires : goal.store_leaf-requires
 store_leaf-requires c = record {
-      size_in_bounds = (search rules, search rules);
-      count_bound = (search store_room, search store_source);
-      i_bound = search store_young;
-    }
+  size_in_bounds = (search rules, search rules);
+  count_bound = (search store_room, search store_source);
+  i_bound = search store_young;
+}
 
 pub returns : goal.returns
 returns c = record { pool_after = search pool_put; records_after = search records_put }

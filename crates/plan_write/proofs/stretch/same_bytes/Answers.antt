@@ -1,6 +1,5 @@
 use native.Mathlib.Omega.{arith}
 use Rattle.plan_write.proofs.stretch.StretchAnswered.{never_compared}
-use Prim.Native.Nat.{◌-◌}
 use Rattle.plan_write.proofs.stretch.StretchAnswered.{left_start, left_end, left_stop, left_more}
 use Rattle.plan_write.proofs.stretch.same_bytes.Goals as goal
 

@@ -11,16 +11,16 @@ slice_bounds-result-end c = search placed_within
 
 pub returns-in-At : goal.returns-in-At
 returns-in-At c = record {
-      ref_ptr_value = (search rules, search shown_at_lem);
-      result_value = search shown_part_lem;
-      number_after = search shown_nothing_refused;
-      slot_after = search shown_nowhere;
-    }
+  ref_ptr_value = (search rules, search shown_at_lem);
+  result_value = search shown_part_lem;
+  number_after = search shown_nothing_refused;
+  slot_after = search shown_nowhere;
+}
 
 pub returns-in-Refused : goal.returns-in-Refused
 returns-in-Refused c = record {
-      ref_ptr_value = (search rules, search shown_at_start);
-      result_value = search shown_empty;
-      number_after = search shown_number_lem;
-      slot_after = search shown_slot_lem;
-    }
+  ref_ptr_value = (search rules, search shown_at_start);
+  result_value = search shown_empty;
+  number_after = search shown_number_lem;
+  slot_after = search shown_slot_lem;
+}
