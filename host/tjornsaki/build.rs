@@ -14,7 +14,7 @@ fn main() {
     if !archive.is_file() {
         eprintln!("{} is missing.", archive.display());
         eprintln!(
-            "`rt staticlib tjornsaki` builds it in target/staticlib; host/build does so before it"
+            "host/prove proves it and puts it in target/staticlib; host/build does so before it"
         );
         eprintln!(
             "runs cargo. If it lies elsewhere, let {} name its folder by its whole path.",
