@@ -20,16 +20,16 @@
  *
  *   slots                 64       1,024       8,192      65,536
  *   tj_wipe               87          87          87          87
- *   tj_create          3,127       4,327      11,575      68,999
- *   tj_length          3,383       8,695      44,615     331,415
- *   tj_read            3,543       8,919      44,871     331,703
- *   tj_write           5,527      16,055      87,863     661,431
- *   tj_resize          6,007      16,055      87,863     661,431
- *   tj_delete          5,511      16,039      87,847     661,415
- *   tj_show            3,431       8,759      44,679     331,479
- *   tj_audit           3,159       4,359      11,607      69,031
- *   tj_open_head       3,415       8,727      44,647     331,447
- *   tj_next              311         311         311         311
+ *   tj_create          2,559       3,727      10,943      68,335
+ *   tj_length          2,767       8,063      43,967     330,751
+ *   tj_read            2,959       8,319      44,255     331,071
+ *   tj_write           4,703      15,247      87,039     660,591
+ *   tj_resize          5,623      15,231      87,023     660,575
+ *   tj_delete          4,671      15,215      87,007     660,559
+ *   tj_show            2,863       8,175      44,079     330,863
+ *   tj_audit           2,495       3,663      10,879      68,271
+ *   tj_open_head       2,767       8,063      43,967     330,751
+ *   tj_next              287         287         287         287
  *
  * Every function leaves eight numbers in answer, whatever was there before:
  *   answer[TJ_REFUSAL]      the number of the refusal, 0 if the call was done

@@ -1,6 +1,6 @@
 -- The pool check lists each root record's blob. A visit of a slot finds a tree of that slot, so the walks from the root records, in
 -- rising order, give one blob for each of them and no other. Behind a root's record and a pool check that went well, a change
--- therefore always finds its blob: the refusal that `withBlob` would give is never met.
+-- therefore always finds its blob: the refusal that `with_blob` would give is never met.
 use mathlib.Core.Path.{◌≡◌, refl, ap, ap₂, ◌∙◌, sym}
 use mathlib.Core.Logic.{◌⊎◌, inl, inr}
 use mathlib.Core.Bool.{Bool, true, false}
@@ -96,7 +96,7 @@ listed r (b ∷ bs) m =
     later t (inl q) = absurd (eqb-false (root_of b) r t (sym q))
     later t (inr n) = n
 
--- a pool check that went well lists the blob of each root record: the refusal of `withBlob` is never met
+-- a pool check that went well lists the blob of each root record: the refusal of `with_blob` is never met
 pub pool_names_root : (e : Edition) (N : ℕ) (P R : List ℕ) (r : ℕ) {bs : List Blob} {seen : List ℕ} → pool_check e N P R ≡ fine bs seen
     → r < N → state R r ≡ 2 → Listed r bs
 pool_names_root e N P R r {bs} w within is =

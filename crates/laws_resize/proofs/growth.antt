@@ -1,8 +1,8 @@
 -- What each slot holds after write and resize. The final statements, for a blob that stands: shaped, no slot twice, none of them free
--- (walk_standing, pool-standing: so it is of every blob that a walk found, and that a pool check lists):
---   ResizedBySlot: write_slot, resize_slot (with longer_slot, shorter_slot): held (cellsOf new) s ≡ written_held .. s, resized_held .. s;
---     write_changes, resize-changes: the call's list of changes, by those functions;
---   WhereBlocksStand: root_site, left_site, left-step: where blocks stand, from the root down;
+-- (walk_standing, pool_standing: so it is of every blob that a walk found, and that a pool check lists):
+--   ResizedBySlot: write_slot, resize_slot (with longer_slot, shorter_slot): held (cells_of new) s ≡ written_held .. s, resized_held .. s;
+--     write_changes, resize_changes: the call's list of changes, by those functions;
+--   WhereBlocksStand: root_site, left_site, left_step: where blocks stand, from the root down;
 --   Changes: a slot's change, case by case;
 --   FormsByCases: each form case by case, for a program's branches and turns.
 -- Sites, WrittenBySlot, Cut, ShorterBySlot: write and shorter.

@@ -1,7 +1,7 @@
 -- The customer's three demands, in the words of document 01's definitions and of nothing else. Each record below is one demand, each field of it
--- one sentence; crates/promises/proofs/Demands.antt shows all of them, as `demand-one`, `demand-two` and `demand-three`, of every proper edition.
+-- one sentence; crates/promises/proofs/Demands.antt shows all of them, as `demand_one`, `demand_two` and `demand_three`, of every proper edition.
 -- What call c answers on store S is `says e S c`: the number and values of the answer that the code gives, by the maps of Answers that `one_answer`
--- speaks of, such as `lengthSaid (length_answer (length_call ..))`; a read's also has the bytes put in the output, show's the bytes shown.
+-- speaks of, such as `length_said (length_answer (length_call ..))`; a read's also has the bytes put in the output, show's the bytes shown.
 use Rattle.std.specs.Prelude.{◌≡◌, ◌↔◌, ◌⊎◌, true, false, ℕ, zero, suc, ◌+◌, ◌-◌, ◌^◌, ◌≤◌, ◌<◌, length, get_or, take, replicate}
 use mathlib.Core.List.{List, [], ◌∷◌, ◌++◌, map, Memᴰ}
 use Rattle.meaning.specs.Lists.{part, pasted, padded}

@@ -1,5 +1,5 @@
 -- The promise of request W-201, the reading head, in the words of the definitions. The record below is the promise, each field of it one sentence;
--- crates/promises/proofs/Heads.antt shows it, as `reading-head`, of every proper edition.
+-- crates/promises/proofs/Heads.antt shows it, as `reading_head`, of every proper edition.
 use Rattle.std.specs.Prelude.{◌≡◌, ◌↔◌, true, ℕ, ◌-◌, ◌≤◌, min, length}
 use mathlib.Core.List.{List, [], ◌∷◌, ◌++◌, Memᴰ}
 use Rattle.meaning.specs.Lists.{joined}

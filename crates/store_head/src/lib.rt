@@ -1,6 +1,6 @@
 // A reading head at edition one. It keeps hold of the pool that it reads from, the blob's root and the place of the next byte, and what opening answered.
-// Each function that takes, makes or returns a head is thin and has no branch: its proof is a walk of the code by hand. The work is done on plain slices
-// and numbers, by `next_bytes`, which serves whoever has no head in hand.
+// Each function that takes, makes or returns a head is thin and has no branch. The work is done on plain slices and numbers, by `next_bytes`, which
+// serves whoever has no head in hand.
 #![tactic(auto)]
 
 ghost use Rattle.std.specs.Prelude.{◌≡◌, ◌+◌, ◌^◌, ◌<◌, length};
@@ -12,7 +12,7 @@ ghost use Rattle.store_head.specs.Held.{bytes_of, place_after, out_from, head_af
 
 use meaning::Length;
 
-#[derive(Drop)]
+#[derive(Clone, Copy, Drop)]
 pub struct Head<'a> {
     pub pool: &'a [u8],
     pub root: u64,
@@ -75,7 +75,7 @@ pub fn next<'a>(h: Head<'a>, out: &mut [u8]) -> Head<'a>
     }
 }
 
-// The first bytes of a blob, by a head that is opened for them, and how many they are: whoever calls it needs no walk by hand.
+// The first bytes of a blob, by a head that is opened for them, and how many they are: for whoever has no head in hand.
 pub fn first_bytes(pool: &[u8], records: &[u8], root: u64, out: &mut [u8]) -> u64
     ensures { (result ≡ place_after root 0 (length_answer (length_call one pool.now records.now root)) (length out.old)) × (out.new ≡ out_from pool.now root 0 (length_answer (length_call one pool.now records.now root)) out.old) }
 {

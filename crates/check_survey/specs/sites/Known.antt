@@ -16,7 +16,7 @@ pub record Sites (e : Edition) (n : ℕ) (P : List ℕ) (b : Blob) (heights firs
   pub none : (s : ℕ) → get_or heights s 0 ≡ 0 → sited (sites_of b) s ≡ absent
   pub some : (s : ℕ) → (get_or heights s 0 ≡ 0 → ⊥) → sited (sites_of b) s ≡ at (site_at e P s (get_or heights s 0) (get_or firsts s 0))
 
--- what is known of the blob of root r, whose length is len: it is `blobAt e P r`
+-- what is known of the blob of root r, whose length is len: it is `blob_at e P r`
 pub record Known (e : Edition) (n : ℕ) (P R : List ℕ) (r len k : ℕ) (row hs fs : List ℕ) : Type 0 where
   -- the pool check's own list has it
   pub blobs : List Blob

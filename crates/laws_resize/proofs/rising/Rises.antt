@@ -1,6 +1,6 @@
 -- The root and the new blocks of a blob that gets longer, by heights and differences: at each height g, full, the blob has fan ^ g leaves and
 -- bulk g blocks, so the new block number bulk g - t takes the root's row, those up to bulk (g + 1) - t stand beside it, and what the root holds
--- then is `topAt`. It rises to the height of the new length and no further, for each lower one is too little.
+-- then is `top_at`. It rises to the height of the new length and no further, for each lower one is too little.
 use mathlib.Core.Path.{◌≡◌, ap, ◌∙◌}
 use mathlib.Core.List.{List}
 use Prim.Native.Nat.{ℕ, zero, suc, ◌+◌, ◌-◌, ◌*◌, ◌^◌, ◌≤◌, ◌<◌}
