@@ -1,7 +1,7 @@
 #!/usr/bin/env python3
 """Brings the repository's own ghost names to today's spelling: words in snake case.
 
-usage: tools/respell.py [--check]     at the top of a repository that /opt/rattle/port/port.py has just turned
+usage: tools/respell.py [--check]     at the top of a repository that port.py of the toolchain (in its folder port/) has just turned
 
 It turns whole words, in .antt files, in the clauses and 'ghost use' items of .rt files, in must-fail edits, in the controls of .ci and in the code spans of
 pages. Types, modules, Rust names, strings, inputs and outputs stay. A lemma whose new name is a definition's gets '_lem' behind it. --check writes nothing,
