@@ -14,22 +14,22 @@
  *
  * Stack. A call makes its rows there, by the number of slots: with 128, 1,024, 8,192 or 65,536 places, the least of these that suffices; so a pool
  * of 129 slots takes the stack of one of 1,024. Write, resize and delete make ten bytes a place, length, read, show and opening a head five, create and
- * audit one, wipe and tj_next none; and a call that is refused with 1 touches none and takes less than 2 KiB. Resize also has a sheet of 937 numbers there,
- * two bytes each, and the walk is never deeper than six blocks. TJ_STACK(slots) is more than any call takes in a pool of so many slots. What each takes, in
+ * audit one, wipe and tj_next none; and a call that is refused with 1 touches none and takes less than 2 KiB. The
+ * walk is never deeper than six blocks. TJ_STACK(slots) is more than any call takes in a pool of so many slots. What each takes, in
  * bytes, as tests/c/stack.c measures it on x86-64, in a pool that one blob fills or whose root claims the greatest height, whichever takes more:
  *
  *   slots                 64       1,024       8,192      65,536
- *   tj_wipe               87          87          87          87
- *   tj_create          2,559       3,727      10,943      68,335
- *   tj_length          2,767       8,063      43,967     330,751
- *   tj_read            2,959       8,319      44,255     331,071
- *   tj_write           4,703      15,247      87,039     660,591
- *   tj_resize          5,623      15,231      87,023     660,575
- *   tj_delete          4,671      15,215      87,007     660,559
- *   tj_show            2,863       8,175      44,079     330,863
- *   tj_audit           2,495       3,663      10,879      68,271
- *   tj_open_head       2,767       8,063      43,967     330,751
- *   tj_next              287         287         287         287
+ *   tj_wipe              103         103         103         103
+ *   tj_create          2,447       3,391      10,559      67,903
+ *   tj_length          2,655       7,183      43,023     329,743
+ *   tj_read            2,879       7,359      43,199     329,919
+ *   tj_write           4,079      13,039      84,719     658,159
+ *   tj_resize          5,559      13,423      85,103     658,543
+ *   tj_delete          3,679      12,671      84,351     657,791
+ *   tj_show            2,767       7,247      43,087     329,807
+ *   tj_audit           2,383       3,327      10,495      67,839
+ *   tj_open_head       2,687       7,215      43,055     329,775
+ *   tj_next              311         311         311         311
  *
  * Every function leaves eight numbers in answer, whatever was there before:
  *   answer[TJ_REFUSAL]      the number of the refusal, 0 if the call was done

@@ -13,7 +13,7 @@
 #define PAINT 0xA5
 #define LONGEST 2883456 /* the bytes of the longest blob in 65,536 slots */
 #define LITTLE 1024     /* what wipe and next may take, which make no rows */
-#define LEAST 2048      /* what a call may take that is refused with 1: its frame has room for the smallest rows, which it does not touch */
+#define LEAST 2048      /* what a call may take that is refused with 1, which makes no rows */
 #define SLACK 512       /* between the header's table and what is measured: frames differ by compiler, but no row of 1,024 places is so short */
 #define COLUMNS 4       /* of the table */
 

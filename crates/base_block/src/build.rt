@@ -17,8 +17,8 @@ pub fn header_of(e: Edition, height: u8, count: u8, slot: u32, version: u64) -> 
     h[1] = mark[1];
     h[2] = height;
     h[3] = count;
-    number::put_u32(&mut h, 4, slot);
-    number::put_u64(&mut h, 8, version);
+    number::put::<4>(&mut h, 4, slot as u64);
+    number::put::<8>(&mut h, 8, version);
     h
 }
 

@@ -4,28 +4,28 @@ ghost use Rattle.meaning.specs.Edition.{Proper};
 ghost use Rattle.meaning.specs.Walk.{flaw};
 
 use base_bytes::{number, runs};
-use meaning::Edition;
+use meaning::{Edition, Reason};
 
-// Check 2: the number of the block's fault, 0 where it passes.
-pub fn flaw_of(e: Edition, version: u64, slot: usize, b: &[u8]) -> u64
+// Check 2: what is wrong with the block, if anything is.
+pub fn flaw_of(e: Edition, version: u64, slot: usize, b: &[u8]) -> Option<Reason>
     requires proper { Proper e }
     requires b_len { length b.now ≡ e.size }
     ensures { result ≡ flaw e version slot b.now }
 {
     let mark = e.mark;
     if !runs::starts_with(b, mark[0], mark[1]) {
-        return 4;
+        return Some(Reason::Spoiled);
     }
-    let own = number::u32_at(b, 4) as usize;
+    let own = number::number_at::<4>(b, 4) as usize;
     if own != slot {
-        return 5;
+        return Some(Reason::Moved);
     }
-    let found = number::u64_at(b, 8);
+    let found = number::number_at::<8>(b, 8);
     if found < version {
-        return 6;
+        return Some(Reason::RolledBack);
     }
     if version < found {
-        return 7;
+        return Some(Reason::Ahead);
     }
-    0
+    None
 }

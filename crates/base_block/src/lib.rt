@@ -9,7 +9,7 @@ ghost use Rattle.std.specs.Prelude.{◌≡◌, length};
 ghost use Rattle.meaning.specs.Edition.{Proper};
 ghost use Rattle.meaning.specs.Walk.{block_check};
 
-use meaning::{Checked, Edition};
+use meaning::{Edition, Reason, Refusal};
 
 // Checks 2 and 3 of a block in a slot whose record has that version.
 pub fn check_block(
@@ -20,17 +20,16 @@ pub fn check_block(
     version: u64,
     slot: usize,
     b: &[u8],
-) -> Checked
+) -> Result<(), Refusal>
     requires proper { Proper e }
     requires b_len { length b.now ≡ e.size }
     ensures { result ≡ block_check e h root edge version slot b.now }
 {
-    let n = flaws::flaw_of(e, version, slot, b);
-    if n != 0 {
-        return Checked::Faulty(meaning::refuse_at(n, slot));
+    if let Some(flaw) = flaws::flaw_of(e, version, slot, b) {
+        return Err(meaning::refuse_at(flaw, slot));
     }
     if forms::formed_of(e, h, root, edge, b) {
-        return Checked::Passed;
+        return Ok(());
     }
-    Checked::Faulty(meaning::refuse_at(8, slot))
+    Err(meaning::refuse_at(Reason::WrongShape, slot))
 }

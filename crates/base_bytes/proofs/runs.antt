@@ -1,1 +1,3 @@
+pub mod Copied
+pub mod FirstBytes
 pub mod Zeros

@@ -2,17 +2,14 @@
 ghost use Rattle.std.specs.Prelude.{◌≡◌, ◌+◌, ◌-◌, ◌%◌, ◌≤◌, min, [], ◌∷◌, length, take, replicate};
 ghost use Rattle.meaning.specs.Lists.{part, pasted, same_list, zeros};
 
-use crate::number;
-
-// The whole lent part becomes the bytes of `src` from `from` on.
+// The whole lent part becomes the bytes of `src` from `from` on. A loop, since the library's `copy_from_slice` asks C for memmove (the C interface: memcpy and
+// memset are all that the archive needs).
 pub fn fill(dst: &mut [u8], src: &[u8], from: usize)
     requires { from + length dst.old ≤ length src.now }
     ensures { dst.new ≡ part from (length dst.old) src.now }
 {
-    let mut i = 0;
-    while i < dst.len() {
+    for i in 0..dst.len() {
         dst[i] = src[from + i];
-        i += 1;
     }
 }
 
@@ -20,11 +17,7 @@ pub fn fill(dst: &mut [u8], src: &[u8], from: usize)
 pub fn clear(dst: &mut [u8])
     ensures { dst.new ≡ replicate (length dst.old) 0 }
 {
-    let mut i = 0;
-    while i < dst.len() {
-        dst[i] = 0;
-        i += 1;
-    }
+    dst.fill(0);
 }
 
 // New bytes put over those from `at` on.
@@ -50,7 +43,7 @@ pub fn stretch_from(leaf: usize, place: usize, left: usize) -> usize
     requires { 1 ≤ leaf }
     ensures { result ≡ min (leaf - place % leaf) left }
 {
-    number::least(leaf - place % leaf, left)
+    (leaf - place % leaf).min(left)
 }
 
 // Whether the first two bytes are these.
@@ -58,29 +51,20 @@ pub fn starts_with(s: &[u8], x: u8, y: u8) -> bool
     requires { 2 ≤ length s.now }
     ensures { result ≡ same_list (take 2 s.now) (x ∷ y ∷ []) }
 {
-    if s[0] != x {
-        return false;
-    }
-    s[1] == y
+    s.starts_with(&[x, y])
+}
+
+// Whether eight bytes are all zero: whether the number in them is.
+fn eight_zero(b: &[u8; 8]) -> bool
+    ensures { result ≡ zeros b.now }
+{
+    u64::from_le_bytes(*b) == 0
 }
 
 // Whether every byte is zero. Eight are looked at in one number, as long as so many are left.
 pub fn all_zero(s: &[u8]) -> bool
     ensures { result ≡ zeros s.now }
 {
-    let mut i = 0;
-    while i < s.len() {
-        if 8 <= s.len() - i {
-            if number::u64_at(s, i) != 0 {
-                return false;
-            }
-            i += 8;
-            continue;
-        }
-        if s[i] != 0 {
-            return false;
-        }
-        i += 1;
-    }
-    true
+    let (eights, rest) = s.as_chunks::<8>();
+    eights.iter().all(|b| eight_zero(b)) && rest.iter().all(|b| *b == 0)
 }

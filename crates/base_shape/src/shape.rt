@@ -15,7 +15,7 @@ pub fn leaf_count(leaf: u64, len: u64) -> u64
     (len - 1) / leaf + 1
 }
 
-// The height of a blob of n leaves: that of its rounded-up share, and one more.
+// The height of a blob of n leaves: that of its rounded-up share, and one more. (div_ceil would compare a remainder too: a block total took a third longer.)
 pub fn height_for(fan: u64, n: u64) -> u64
     requires { (2 ≤ fan) × (fan ≤ 2 ^ 32) × (n ≤ 2 ^ 62) }
     ensures { (result ≡ height_for fan n) × (result ≤ n) }

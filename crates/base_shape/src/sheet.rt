@@ -1,5 +1,5 @@
 // The sheet: the block totals of 1 to 937 leaves at fan-out 12. Row n - 1 holds that of n leaves.
-ghost use Rattle.std.specs.Prelude.{◌≡◌, ◌+◌, ◌≤◌, ◌<◌};
+ghost use Rattle.std.specs.Prelude.{◌≡◌, ◌≤◌};
 ghost use Rattle.meaning.specs.Shape.{total};
 
 const TOTALS: [u16; 937] = [
@@ -54,29 +54,13 @@ const TOTALS: [u16; 937] = [
     1016, 1017, 1018, 1019, 1020, 1021, 1022, 1024,
 ];
 
-// A row of the sheet. Compiled, all rows are written to the stack before one is read.
-fn any_row(i: u64) -> u64
-    requires { i < 937 }
-    ensures { result ≡ total 12 (i + 1) }
-{
-    TOTALS[i as usize] as u64
-}
-
-// One of the first 64 rows. The remainder changes nothing, but tells the compiler that no other row is read, and it writes these 64 alone.
-fn early_row(i: u64) -> u64
-    requires { i < 64 }
-    ensures { result ≡ total 12 (i + 1) }
-{
-    TOTALS[(i % 64) as usize] as u64
-}
+// The sheet in memory, so that a look into it is one load: a const array is written to the stack wherever it is used.
+static SHEET: [u16; 937] = TOTALS;
 
 // The block total of n leaves at fan-out 12, read off.
 pub fn total_of(n: u64) -> u64
     requires { (1 ≤ n) × (n ≤ 937) }
     ensures { result ≡ total 12 n }
 {
-    if n <= 64 {
-        return early_row(n - 1);
-    }
-    any_row(n - 1)
+    SHEET[(n - 1) as usize] as u64
 }

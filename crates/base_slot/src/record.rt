@@ -4,7 +4,8 @@ ghost use Rattle.meaning.specs.Bytes.{record_with, state_of, recorded_of, sound_
 
 use base_bytes::{number, runs};
 
-// A record's state: 0 free, 1 part, 2 root.
+// A record's state: 0 free, 1 part, 2 root. It is a number wherever it is compared or built, and no enum: the definitions speak of the
+// number (`state`, `record_of`), and a record of a broken store may hold any byte there.
 pub fn state_of(r: &[u8]) -> u8
     requires { length r.now ≡ 12 }
     ensures { result ≡ state_of r.now }
@@ -17,28 +18,20 @@ pub fn version_of(r: &[u8]) -> u64
     requires { length r.now ≡ 12 }
     ensures { result ≡ recorded_of r.now }
 {
-    number::u64_at(r, 4)
+    number::number_at::<8>(r, 4)
 }
 
 // The check of one record: whether it keeps its layout.
+#[tactic(auto, unfolding(meaning::specs::Bytes::sound_record, meaning::specs::Lists::both, meaning::specs::Lists::pick))]
 pub fn is_sound(r: &[u8]) -> bool
     requires { length r.now ≡ 12 }
     ensures { result ≡ sound_record r.now }
 {
-    if !runs::starts_with(r, 0x52, 0x31) {
-        return false;
-    }
     let state = state_of(r);
-    if 2 < state {
-        return false;
-    }
-    if r[3] != 0 {
-        return false;
-    }
-    if state == 0 {
-        return true;
-    }
-    1 <= version_of(r)
+    runs::starts_with(r, 0x52, 0x31)
+        && state <= 2
+        && r[3] == 0
+        && (state == 0 || 1 <= version_of(r))
 }
 
 // A record with that state, fourth byte and version.
@@ -50,6 +43,6 @@ pub fn build(state: u8, fourth: u8, version: u64) -> [u8; 12]
     r[1] = 0x31;
     r[2] = state;
     r[3] = fourth;
-    number::put_u64(&mut r, 4, version);
+    number::put::<8>(&mut r, 4, version);
     r
 }

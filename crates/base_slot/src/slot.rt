@@ -78,7 +78,7 @@ pub fn store_stretch(
     ensures { pool.new ≡ put e.size slot (pasted (16 + within) (part from count src.now) (pasted 8 (bytes 8 version) (block e pool.old slot))) pool.old }
 {
     let start = e.size * slot;
-    number::put_u64(pool, start + 8, version);
+    number::put::<8>(pool, start + 8, version);
     let at = start + 16 + within;
     let end = at + count;
     runs::fill(&mut pool[at..end], src, from);

@@ -1,4 +1,5 @@
 -- The audit's answer: an equation for each way out, and the count of live slots, one after the other.
+use Rattle.std.specs.Prelude.{Err, Ok, Option, Result}
 use mathlib.Core.Path.{◌≡◌, ap, ◌∙◌, sym}
 use mathlib.Core.Bool.{Bool, not}
 use mathlib.Core.List.{List, [], ◌∷◌}
@@ -11,44 +12,38 @@ use Rattle.meaning.specs.Lists.{pick, range, filter}
 use Rattle.meaning.specs.Bytes.{record_at, state_of, state}
 use Rattle.meaning.specs.Walk.{pool_check}
 use Rattle.meaning.specs.Calls.{after_check, live, slots_in, audit_on, audit_in, audit_call}
-use Rattle.meaning.specs.Answers.{audit_answer}
+use Rattle.meaning.specs.Answers.{answer_of}
 use Rattle.meaning.specs.declared.Edition.{Edition}
 use Rattle.meaning.specs.declared.Refusal.{Refusal}
-use Rattle.meaning.specs.declared.Audit.{Audit}
-use Rattle.meaning.specs.declared.Audit.TheVariants as AuditCase
-use Rattle.laws.proofs.Ranges.{filter_append, left_all, left_step, left_none}
+use Rattle.laws.proofs.Ranges.{filter_append, left_step, left_none}
 use Rattle.laws.proofs.Codec.{state_is}
-use Rattle.check_gate.specs.declared.Opened.{Opened}
-use Rattle.check_gate.specs.declared.Opened.TheVariants.{Slots, Refused}
-use Rattle.check_gate.specs.Gate.{gate}
+use Rattle.check_gate.specs.Gate.{gate, Opened}
 use Rattle.check_gate.proofs.BehindTheGate.{gate_barred, gate_behind}
-use Rattle.check_blob.specs.declared.notes.Walked.{Walked}
-use Rattle.check_blob.specs.declared.notes.Walked.TheVariants.{Fault, Fine}
-use Rattle.check_blob.specs.notes.{met}
+use Rattle.check_blob.specs.notes.{met, Walked}
 use Rattle.check_pool.specs.roots.{note_named, kept, pool_noted}
 use Rattle.check_blob.proofs.notes.Answering.{noted_fault, noted_fine}
 use Rattle.call_audit.specs.Counting.{live_from}
 
 -- refusals 1 and 2, or what is answered behind them
 module _ (e : Edition) (P R : List ℕ) (x : Opened) (ex : x ≡ gate e P R) where
-  pub audit_barred : (q : Refusal) → x ≡ Refused q → AuditCase.Refused q ≡ audit_answer (audit_call e P R)
-  unfolding audit_answer audit_call
-  audit_barred q eq = sym (ap audit_answer (gate_barred e P R x ex q eq (audit_in e (slots_in e P) P R)))
+  pub audit_barred : (q : Refusal) → x ≡ Err q → Err q ≡ answer_of (audit_call e P R)
+  unfolding answer_of audit_call
+  audit_barred q eq = sym (ap answer_of (gate_barred e P R x ex q eq (audit_in e (slots_in e P) P R)))
 
-  pub audit_behind : (n : ℕ) → x ≡ Slots n → (a : Audit) → a ≡ audit_answer (audit_in e n P R) → a ≡ audit_answer (audit_call e P R)
+  pub audit_behind : (n : ℕ) → x ≡ Ok n → (a : Result ℕ Refusal) → a ≡ answer_of (audit_in e n P R) → a ≡ answer_of (audit_call e P R)
   unfolding audit_call
-  audit_behind n en a ea = ea ∙ sym (ap audit_answer (gate_behind e P R x ex n en (λ m. audit_in e m P R)))
+  audit_behind n en a ea = ea ∙ sym (ap answer_of (gate_behind e P R x ex n en (λ m. audit_in e m P R)))
 
 -- the pool check: its fault, or the count
-module _ (e : Edition) (n : ℕ) (P R : List ℕ) (named : ℕ) (o : List ℕ) (w : Walked) (sx ox : List ℕ) (ew : met w sx ox ≡ pool_noted e n P R named o) where
-  pub audit_fault : (f : Refusal) → w ≡ Fault f → AuditCase.Refused f ≡ audit_answer (audit_in e n P R)
-  unfolding met pool_noted audit_answer audit_in after_check
+module _ (e : Edition) (n : ℕ) (P R : List ℕ) (named : Option ℕ) (o : List ℕ) (w : Walked) (sx ox : List ℕ) (ew : met w sx ox ≡ pool_noted e n P R named o) where
+  pub audit_fault : (f : Refusal) → w ≡ Err f → Err f ≡ answer_of (audit_in e n P R)
+  unfolding met pool_noted answer_of audit_in after_check
   audit_fault f ef = rw (noted_fault (note_named named (kept 0 0 o)) f (pool_check e n P R) (rw ef at ew))
 
-  pub audit_live : (b k : ℕ) → w ≡ Fine b k → (m : ℕ) → m ≡ live_from R 0 n → AuditCase.Live m ≡ audit_answer (audit_in e n P R)
-  unfolding met pool_noted audit_answer audit_in after_check audit_on live live_from
-  audit_live b k eb m em =
-      let q = noted_fine (note_named named (kept 0 0 o)) (record { bytes = b; leaves = k; row = ox }) sx (pool_check e n P R) (rw eb at ew) in
+  pub audit_live : (f : ℕ × ℕ) → w ≡ Ok f → (m : ℕ) → m ≡ live_from R 0 n → Ok m ≡ answer_of (audit_in e n P R)
+  unfolding met pool_noted answer_of audit_in after_check audit_on live live_from
+  audit_live f eb m em =
+      let q = noted_fine (note_named named (kept 0 0 o)) (record { bytes = f.0; leaves = f.1; row = ox }) sx (pool_check e n P R) (rw eb at ew) in
       rw (q.1, em)
 
 -- live slots, one after the other
@@ -62,9 +57,6 @@ module _ (R : List ℕ) (i : ℕ) (rb : List ℕ) (er : rb ≡ record_at R i) (s
   live_one n = simp (← state_is R i rb er st es, ne_eqb st 0 n)
 
 -- the count so far and that of the slots left are the whole
-pub live_start : (R : List ℕ) (n : ℕ) → 0 + live_from R 0 (n - 0) ≡ live_from R 0 n
-unfolding live_from
-live_start R n = rw (left_all n) (omega arith)
 
 module _ (R : List ℕ) (n i live : ℕ) (inv : live + live_from R i (n - i) ≡ live_from R 0 n) where
   pub live_more : i < n → (m : ℕ) → m ≡ live_from R i 1 → live + m + live_from R (i + 1) (n - (i + 1)) ≡ live_from R 0 n

@@ -4,15 +4,13 @@
 ghost use Rattle.std.specs.Prelude.{◌≡◌, ◌*◌, ◌≤◌, ◌<◌, length, replicate};
 ghost use Rattle.meaning.specs.Edition.{Proper};
 ghost use Rattle.meaning.specs.Calls.{audit_in, audit_call};
-ghost use Rattle.meaning.specs.Answers.{audit_answer};
+ghost use Rattle.meaning.specs.Answers.{answer_of};
 ghost use Rattle.check_gate.specs.Gate.{Whole};
 ghost use Rattle.check_gate.specs.Places.{Clear};
 ghost use Rattle.call_audit.specs.Counting.{live_from};
 
 use base_slot::{record, slot};
-use check_blob::notes::Walked;
-use check_gate::Opened;
-use meaning::{Audit, Edition};
+use meaning::{Edition, Refusal};
 
 // How many of one slot are live: 1 or 0.
 fn live_at(records: &[u8], n: usize, i: usize) -> u64
@@ -29,10 +27,8 @@ fn count_live(records: &[u8], n: usize) -> u64
     ensures { result ≡ live_from records.now 0 n }
 {
     let mut live: u64 = 0;
-    let mut i = 0;
-    while i < n {
+    for i in 0..n {
         live += live_at(records, n, i);
-        i += 1;
     }
     live
 }
@@ -45,16 +41,14 @@ fn audit_in(
     seen: &mut [u8],
     row: &mut [u32],
     n: usize,
-) -> Audit
+) -> Result<u64, Refusal>
     requires proper { Proper e }
     requires whole { Whole e n pool.now records.now }
     requires seen_value { seen.old ≡ replicate n 0 }
-    ensures { result ≡ audit_answer (audit_in e n pool.now records.now) }
+    ensures { result ≡ answer_of (audit_in e n pool.now records.now) }
 {
-    match check_pool::check(e, pool, records, seen, row, n, n) {
-        Walked::Fault(r) => Audit::Refused(r),
-        Walked::Fine(_, _) => Audit::Live(count_live(records, n)),
-    }
+    check_pool::check(e, pool, records, seen, row, n, None)?;
+    Ok(count_live(records, n))
 }
 
 // The whole call: refusals 1 and 2, then the audit. The flags have a place for each slot of the pool; no leaf is noted in the row.
@@ -64,13 +58,11 @@ pub fn audit_call(
     records: &[u8],
     seen: &mut [u8],
     row: &mut [u32],
-) -> Audit
+) -> Result<u64, Refusal>
     requires proper { Proper e }
     requires clear { Clear e pool.now seen.old }
-    ensures { result ≡ audit_answer (audit_call e pool.now records.now) }
+    ensures { result ≡ answer_of (audit_call e pool.now records.now) }
 {
-    match check_gate::open(e, pool, records) {
-        Opened::Refused(r) => Audit::Refused(r),
-        Opened::Slots(n) => audit_in(e, pool, records, &mut seen[0..n], row, n),
-    }
+    let n = check_gate::open(e, pool, records)?;
+    audit_in(e, pool, records, &mut seen[0..n], row, n)
 }

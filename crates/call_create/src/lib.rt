@@ -6,13 +6,11 @@ pub mod claim;
 ghost use Rattle.std.specs.Prelude.{◌≡◌, length, replicate};
 ghost use Rattle.meaning.specs.Edition.{Proper};
 ghost use Rattle.meaning.specs.Calls.{create_in, create_call};
-ghost use Rattle.meaning.specs.Answers.{create_answer, Ends};
+ghost use Rattle.meaning.specs.Answers.{answer_of, Ends};
 ghost use Rattle.check_gate.specs.Gate.{Whole};
 ghost use Rattle.check_gate.specs.Places.{Clear};
 
-use check_blob::notes::Walked;
-use check_gate::Opened;
-use meaning::{Created, Edition};
+use meaning::{Edition, Refusal};
 
 // The pool check, then the new blob.
 fn create_in(
@@ -23,15 +21,16 @@ fn create_in(
     row: &mut [u32],
     scratch: &mut [u8],
     n: usize,
-) -> Created
+) -> Result<u64, Refusal>
     requires proper { Proper e }
     requires whole { Whole e n pool.old records.old }
     requires seen_value { (seen.old ≡ replicate n 0) × (length scratch.old ≡ e.size) }
-    ensures { Ends e create_answer (create_in e n pool.old records.old) pool.old records.old result pool.new records.new }
+    ensures { Ends e answer_of (create_in e n pool.old records.old) pool.old records.old result pool.new records.new }
 {
-    match check_pool::check(e, pool, records, seen, row, n, n) {
-        Walked::Fault(r) => Created::Refused(r),
-        Walked::Fine(_, _) => claim::create_free(e, pool, records, scratch, n),
+    // Kept as a match: the edit fault_is_slot_zero changes what it answers of a fault.
+    match check_pool::check(e, pool, records, seen, row, n, None) {
+        Err(r) => Err(r),
+        Ok((_, _)) => claim::create_free(e, pool, records, scratch, n),
     }
 }
 
@@ -43,13 +42,11 @@ pub fn create_call(
     seen: &mut [u8],
     row: &mut [u32],
     scratch: &mut [u8],
-) -> Created
+) -> Result<u64, Refusal>
     requires proper { Proper e }
     requires clear { Clear e pool.old seen.old × (length scratch.old ≡ e.size) }
-    ensures { Ends e create_answer (create_call e pool.old records.old) pool.old records.old result pool.new records.new }
+    ensures { Ends e answer_of (create_call e pool.old records.old) pool.old records.old result pool.new records.new }
 {
-    match check_gate::open(e, pool, records) {
-        Opened::Refused(r) => Created::Refused(r),
-        Opened::Slots(n) => create_in(e, pool, records, &mut seen[0..n], row, scratch, n),
-    }
+    let n = check_gate::open(e, pool, records)?;
+    create_in(e, pool, records, &mut seen[0..n], row, scratch, n)
 }

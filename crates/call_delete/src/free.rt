@@ -45,9 +45,8 @@ pub fn clear_all(
     ensures pool_after { pool.new ≡ puts e.size (λ c. c.block) (over (clear_plan e records.old heights.now) 0 n) pool.old }
     ensures records_after { records.new ≡ puts 12 (λ c. c.line) (over (clear_plan e records.old heights.now) 0 n) records.old }
 {
-    let mut i = 0;
-    while i < n {
+    // Not one loop with a write's and a resize's: each is one call a slot, lent other slices, and a trait of plans with its law is no plainer.
+    for i in 0..n {
         clear_slot(e, pool, records, heights, scratch, n, i);
-        i += 1;
     }
 }

@@ -6,11 +6,10 @@ pub mod free;
 ghost use Rattle.std.specs.Prelude.{◌≡◌, length};
 ghost use Rattle.meaning.specs.Edition.{Proper};
 ghost use Rattle.meaning.specs.Calls.{delete_call};
-ghost use Rattle.meaning.specs.Answers.{change_answer, Ends};
+ghost use Rattle.meaning.specs.Answers.{answer_of, Ends};
 ghost use Rattle.check_survey.specs.Reached.{Rows};
 
-use check_survey::Reached;
-use meaning::{Changed, Edition};
+use meaning::{Edition, Refusal};
 
 // Delete: refusals 1, 2 and 3 and the pool check, then every block of the blob goes.
 pub fn delete_call(
@@ -23,17 +22,14 @@ pub fn delete_call(
     firsts: &mut [u32],
     scratch: &mut [u8],
     root: u64,
-) -> Changed
+) -> Result<(), Refusal>
     requires proper { Proper e }
     requires rows { Rows e pool.old seen.old row.old heights.old firsts.old }
     requires scratch_len { length scratch.old ≡ e.size }
-    ensures { Ends e change_answer (delete_call e pool.old records.old root) pool.old records.old result pool.new records.new }
+    ensures { Ends e answer_of (delete_call e pool.old records.old root) pool.old records.old result pool.new records.new }
 {
-    match check_survey::reach(e, pool, records, seen, row, heights, firsts, root) {
-        Reached::Refused(r) => Changed::Refused(r),
-        Reached::Blob(n, _, _) => {
-            free::clear_all(e, pool, records, &heights[0..n], scratch, n);
-            Changed::Done
-        }
-    }
+    let reached = check_survey::reach(e, pool, records, seen, row, heights, firsts, root)?;
+    let n = reached.slots;
+    free::clear_all(e, pool, records, &heights[0..n], scratch, n);
+    Ok(())
 }

@@ -94,11 +94,9 @@ fn copy_row(
 {
     let row = row_of(e, place + pos);
     let parent = descend::slot_below(e, pool, h - 1, root, row);
+    // Not chunks of out: the first stretch may begin inside a leaf, and each turn goes on by as many bytes as it copied.
     let mut to = pos;
-    while to < count {
-        if row_of(e, place + to) != row {
-            return to;
-        }
+    while to < count && row_of(e, place + to) == row {
         to = copy_child(e, pool, h, root, parent, place, to, count, out);
     }
     to

@@ -3,7 +3,6 @@ ghost use Rattle.std.specs.Prelude.{◌≡◌, ◌<◌};
 ghost use Rattle.meaning.specs.Edition.{Proper};
 ghost use Rattle.meaning.specs.Head.{child_at, below, height_at};
 
-use base_bytes::number;
 use base_slot::{fields, slot};
 use meaning::Edition;
 
@@ -14,7 +13,7 @@ pub fn child_at(e: Edition, pool: &[u8], s: usize, i: usize) -> usize
     ensures { result ≡ child_at e pool.now s i }
 {
     if s < pool.len() / e.size {
-        return number::u32_at(slot::block_of(e, pool, s), 16 + 4 * i) as usize;
+        return fields::child_of(slot::block_of(e, pool, s), i);
     }
     0
 }
@@ -81,7 +80,7 @@ pub fn height_at(e: Edition, pool: &[u8], root: usize) -> usize
 {
     if root < pool.len() / e.size {
         let h = fields::height_of(slot::block_of(e, pool, root));
-        return number::least(h, e.top);
+        return h.min(e.top);
     }
     0
 }

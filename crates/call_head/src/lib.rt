@@ -8,7 +8,6 @@ ghost use Rattle.std.specs.Prelude.{◌≡◌, length};
 ghost use Rattle.meaning.specs.Edition.{Proper};
 ghost use Rattle.meaning.specs.Head.{head_at, handed, out_after};
 
-use base_bytes::number;
 use meaning::Edition;
 
 // The next bytes of a blob of that root and length, from a place on: as many as out takes or as remain. Answers how many; the rest of out stays.
@@ -27,9 +26,11 @@ pub fn next_call(
     if len <= place {
         return 0;
     }
-    let count = number::least(out.len(), len - place);
+    let count = out.len().min(len - place);
     let h = descend::height_at(e, pool, root);
+    // Not a for: each turn goes on by as many bytes as it copied.
     let mut pos = 0;
+    // No range: a turn copies up to the end of a row of leaves and says how far it came, and the first turn may start inside one.
     while pos < count {
         pos = copy::copy_some(e, pool, h, root, place, pos, count, out);
     }

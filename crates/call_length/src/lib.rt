@@ -4,13 +4,11 @@
 ghost use Rattle.std.specs.Prelude.{◌≡◌, ◌≤◌, length, replicate};
 ghost use Rattle.meaning.specs.Edition.{Proper};
 ghost use Rattle.meaning.specs.Calls.{slots_in, length_in, length_call};
-ghost use Rattle.meaning.specs.Answers.{length_answer};
+ghost use Rattle.meaning.specs.Answers.{answer_of};
 ghost use Rattle.check_gate.specs.Gate.{Whole};
 ghost use Rattle.check_gate.specs.Places.{Clear};
 
-use check_blob::notes::Walked;
-use check_gate::Opened;
-use meaning::{Edition, Length};
+use meaning::{Edition, Refusal};
 
 // Refusal 3 and the blob check, then the length.
 fn length_in(
@@ -21,16 +19,14 @@ fn length_in(
     row: &mut [u32],
     n: usize,
     root: u64,
-) -> Length
+) -> Result<u64, Refusal>
     requires proper { Proper e }
     requires whole { Whole e n pool.now records.now }
     requires seen_value { seen.old ≡ replicate n 0 }
-    ensures { result ≡ length_answer (length_in e n pool.now records.now root) }
+    ensures { result ≡ answer_of (length_in e n pool.now records.now root) }
 {
-    match check_blob::open::open_blob(e, pool, records, seen, row, n, root) {
-        Walked::Fault(r) => Length::Refused(r),
-        Walked::Fine(bytes, _) => Length::Is(bytes),
-    }
+    let (bytes, _) = check_blob::open::open_blob(e, pool, records, seen, row, n, root)?;
+    Ok(bytes)
 }
 
 // The whole call: refusals 1 and 2, then the length. Flags and row have a place for each slot of the pool.
@@ -41,15 +37,11 @@ pub fn length_call(
     seen: &mut [u8],
     row: &mut [u32],
     root: u64,
-) -> Length
+) -> Result<u64, Refusal>
     requires proper { Proper e }
     requires clear { Clear e pool.now seen.old × (slots_in e pool.now ≤ length row.old) }
-    ensures { result ≡ length_answer (length_call e pool.now records.now root) }
+    ensures { result ≡ answer_of (length_call e pool.now records.now root) }
 {
-    match check_gate::open(e, pool, records) {
-        Opened::Refused(r) => Length::Refused(r),
-        Opened::Slots(n) => {
-            length_in(e, pool, records, &mut seen[0..n], &mut row[0..n], n, root)
-        }
-    }
+    let n = check_gate::open(e, pool, records)?;
+    length_in(e, pool, records, &mut seen[0..n], &mut row[0..n], n, root)
 }

@@ -1,12 +1,14 @@
 -- A read's answer: an equation for each way out.
+use Rattle.std.specs.Prelude.{Err, Ok, Result}
 use mathlib.Core.Path.{◌≡◌, ◌∙◌, sym, subst}
-use mathlib.Core.Bool.{true, false}
+use mathlib.Core.Bool.{Bool, true, false, not}
 use mathlib.Core.List.{List}
-use Prim.Native.Nat.{ℕ, ◌+◌, ◌-◌, ◌*◌, ◌^◌, ◌≤◌, ◌<◌}
+use Prim.Native.Nat.{ℕ, ◌+◌, ◌*◌, ◌^◌, ◌≤◌, ◌<◌}
 use native.Mathlib.Omega.{arith}
-use borrow.Author.Tests.{lt-ltb, le-ltb}
+use borrow.Author.Tests.{ltb-false, not-true, not-false}
 use lib.Dec.{ltb}
 use lib.ListN.{length, take}
+use Rattle.meaning.specs.declared.Reason.TheVariants.{OutOfRange}
 use Rattle.meaning.specs.Lists.{part}
 use Rattle.meaning.specs.Edition.{Proper}
 use Rattle.meaning.specs.Refusals.{nowhere}
@@ -14,15 +16,9 @@ use Rattle.meaning.specs.Calls.{Outcome, refuse_if, slots_in, read_on, read_in, 
 use Rattle.meaning.specs.Answers.{finish_answer, read_out, Reads}
 use Rattle.meaning.specs.declared.Edition.{Edition}
 use Rattle.meaning.specs.declared.Refusal.{Refusal}
-use Rattle.meaning.specs.declared.Finished.{Finished}
-use Rattle.meaning.specs.declared.Finished.TheVariants as FinishedCase
-use Rattle.check_gate.specs.declared.Opened.{Opened}
-use Rattle.check_gate.specs.declared.Opened.TheVariants.{Slots, Refused}
-use Rattle.check_gate.specs.Gate.{gate, Whole}
+use Rattle.check_gate.specs.Gate.{gate, Whole, Opened}
 use Rattle.check_gate.proofs.BehindTheGate.{gate_barred, gate_behind}
-use Rattle.check_blob.specs.declared.notes.Walked.{Walked}
-use Rattle.check_blob.specs.declared.notes.Walked.TheVariants.{Fault, Fine}
-use Rattle.check_blob.specs.notes.{met}
+use Rattle.check_blob.specs.notes.{met, Walked}
 use Rattle.check_blob.specs.Rooted.{open_noted}
 use Rattle.check_blob.proofs.Opening.{Blobbed, open_fault, open_below, open_found, open_reads}
 use Rattle.call_read.specs.copy.{spelt, Readable, Reading, read_spelt}
@@ -30,13 +26,13 @@ use Rattle.call_read.proofs.Spelt.{row_bytes, row_readable, read_spelt_lem}
 
 -- refusals 1 and 2, or what is answered behind them
 module _ (e : Edition) (P R : List ℕ) (x : Opened) (ex : x ≡ gate e P R) (r offset size : ℕ) where
-  pub read_barred : (q : Refusal) → x ≡ Refused q → (out : List ℕ) → Reads (read_call e P R r offset size) (FinishedCase.Refused q) out out
+  pub read_barred : (q : Refusal) → x ≡ Err q → (out : List ℕ) → Reads (read_call e P R r offset size) (Err q) out out
   unfolding finish_answer read_out read_call
   read_barred q eq out =
       let u = gate_barred e P R x ex q eq (read_in e (slots_in e P) P R r offset size) in
       record { answer = rw u; output = rw u }
 
-  pub read_behind : (n : ℕ) → x ≡ Slots n → (a : Finished) (out out' : List ℕ) → Reads (read_in e n P R r offset size) a out out'
+  pub read_behind : (n : ℕ) → x ≡ Ok n → (a : Result (Unit {0}) Refusal) (out out' : List ℕ) → Reads (read_in e n P R r offset size) a out out'
       → Reads (read_call e P R r offset size) a out out'
   unfolding read_call
   read_behind n en a out out' h =
@@ -44,14 +40,14 @@ module _ (e : Edition) (P R : List ℕ) (x : Opened) (ex : x ≡ gate e P R) (r 
 
 -- refusal 3 and the blob check: the refusal, or the read of what the row spells
 module _ (e : Edition) (n : ℕ) (P R : List ℕ) (r : ℕ) (o : List ℕ) (w : Walked) (sx ox : List ℕ) (ew : met w sx ox ≡ open_noted e n P R r o) where
-  module _ (f : Refusal) (ef : w ≡ Fault f) where
-    pub read_refused : (offset size : ℕ) (out : List ℕ) → Reads (read_in e n P R r offset size) (FinishedCase.Refused f) out out
+  module _ (f : Refusal) (ef : w ≡ Err f) where
+    pub read_refused : (offset size : ℕ) (out : List ℕ) → Reads (read_in e n P R r offset size) (Err f) out out
     unfolding finish_answer read_out read_in
     read_refused offset size out =
         let u = open_fault e n P R r o w sx ox ew f ef (read_on e n P R offset size) in
         record { answer = rw u; output = rw u }
 
-  module _ (b k : ℕ) (eb : w ≡ Fine b k) (q : Proper e) (z : Whole e n P R) (lo : length o ≡ n) where
+  module _ (b k : ℕ) (eb : w ≡ Ok (b, k)) (q : Proper e) (z : Whole e n P R) (lo : length o ≡ n) where
     abbrev blob : Blobbed e n P R r b k o sx ox
     blob = open_found e n P R r o w sx ox ew b k eb
 
@@ -64,36 +60,31 @@ module _ (e : Edition) (n : ℕ) (P R : List ℕ) (r : ℕ) (o : List ℕ) (w : 
     pub found_readable : Readable e n P (take k ox)
     found_readable = row_readable e q n P R z r b k o sx ox blob below lo
 
-    pub read_found : (offset size : ℕ) (x : Finished) (out out' : List ℕ)
+    pub read_found : (offset size : ℕ) (x : Result (Unit {0}) Refusal) (out out' : List ℕ)
         → Reads (read_spelt offset size (spelt e P (take k ox))) x out out' → Reads (read_in e n P R r offset size) x out out'
     unfolding read_in
     read_found offset size x out out' h =
         let a = open_reads e n P R r o w sx ox ew b k eb (read_on e n P R offset size) in
         subst (λ (y : Outcome (List ℕ)). Reads y x out out') (sym (a ∙ read_spelt_lem e q n P R z r b k o sx ox blob below lo offset size)) h
 
--- refusal 10 of a read
-module _ (offset size : ℕ) (c out : List ℕ) (b : ℕ) (eb : b ≡ length c) where
-  past : b < offset + size → (q : Refusal) → q ≡ nowhere 10 → Reads (read_spelt offset size c) (FinishedCase.Refused q) out out
+-- refusal 10 of a read: t is whether the blob holds the range
+module _ (offset size : ℕ) (c out : List ℕ) (b : ℕ) (eb : b ≡ length c) (t : Bool) (et : t ≡ not (ltb b (offset + size))) where
+  pub read_past : not t ≡ true → (q : Refusal) → q ≡ nowhere OutOfRange → Reads (read_spelt offset size c) (Err q) out out
   unfolding read_spelt refuse_if finish_answer read_out
-  past l q eq =
-      let t : ltb (length c) (offset + size) ≡ true = lt-ltb (length c) (offset + size) (omega arith) in
-      record { answer = rw (eq, t); output = rw t }
+  read_past m q eq =
+      let u : ltb (length c) (offset + size) ≡ true = rw (← eb) (not-false _ (sym et ∙ not-true t m)) in
+      record { answer = rw (eq, u); output = rw u }
 
-  pub read_before : b < offset → (q : Refusal) → q ≡ nowhere 10 → Reads (read_spelt offset size c) (FinishedCase.Refused q) out out
-  read_before l q eq = past (omega arith) q eq
-
-  pub read_past : offset ≤ b → b - offset < size → (q : Refusal) → q ≡ nowhere 10 → Reads (read_spelt offset size c) (FinishedCase.Refused q) out out
-  read_past l m q eq = past (omega arith) q eq
-
-  pub read_within : offset ≤ b → size ≤ b - offset → (out' : List ℕ) → out' ≡ part offset size c → Reads (read_spelt offset size c) FinishedCase.Done out out'
+  pub read_within : not t ≡ false → (out' : List ℕ) → out' ≡ part offset size c → Reads (read_spelt offset size c) (Ok tt) out out'
   unfolding read_spelt refuse_if finish_answer read_out
-  read_within l m out' eo =
-      let t : ltb (length c) (offset + size) ≡ false = le-ltb (length c) (offset + size) (omega arith) in
-      record { answer = rw t; output = rw t eo }
+  read_within m out' eo =
+      let u : ltb (length c) (offset + size) ≡ false = rw (← eb) (not-true _ (sym et ∙ not-false t m)) in
+      record { answer = rw u; output = rw u eo }
 
 -- behind refusal 10 the read may start
 pub reading_starts : (e : Edition) (n : ℕ) (P row : List ℕ) (k offset size b : ℕ) → k ≤ length row → length P ≡ e.size * n
-    → Readable e n P (take k row) → b ≡ length (spelt e P (take k row)) → offset ≤ b → size ≤ b - offset → b < 2 ^ 64
+    → Readable e n P (take k row) → b ≡ length (spelt e P (take k row)) → (t : Bool) → t ≡ not (ltb b (offset + size)) → not t ≡ false → b < 2 ^ 64
     → Reading e n P row k offset size
-reading_starts e n P row k offset size b lk z g eb l m w =
-    record { leaves = lk; pool = z; readable = g; fits = omega arith; word = omega arith }
+reading_starts e n P row k offset size b lk z g eb t et m w =
+    let u : offset + size ≤ b = ltb-false b (offset + size) (not-true _ (sym et ∙ not-false t m)) in
+    record { leaves = lk; pool = z; readable = g; fits = omega (arith, u, eb); word = omega (arith, u) }

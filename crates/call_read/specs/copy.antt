@@ -4,6 +4,7 @@ use Rattle.meaning.specs.Lists.{part, joined}
 use Rattle.meaning.specs.Bytes.{block, data_of}
 use Rattle.meaning.specs.Calls.{Outcome, done, refuse_if}
 use Rattle.meaning.specs.declared.Edition.{Edition}
+use Rattle.meaning.specs.declared.Reason.TheVariants.{OutOfRange}
 
 -- the data bytes of these slots, one after the other
 unfoldable pub spelt : Edition → (P slots : List ℕ) → List ℕ
@@ -31,4 +32,4 @@ pub record Reading (e : Edition) (n : ℕ) (P row : List ℕ) (k offset size : �
 
 -- refusal 10, or the bytes from the offset on
 unfoldable pub read_spelt : (offset size : ℕ) → List ℕ → Outcome (List ℕ)
-read_spelt offset size c = refuse_if (ltb (length c) (offset + size)) 10 (done (part offset size c) [])
+read_spelt offset size c = refuse_if (ltb (length c) (offset + size)) OutOfRange (done (part offset size c) [])

@@ -8,7 +8,8 @@ use base_bytes::runs;
 use base_slot::slot;
 use meaning::Edition;
 
-// Copies one stretch behind the first pos bytes of out, and answers how many are there then.
+// Copies one stretch behind the first pos bytes of out, and answers how many are there then. It is not one with the copy of `call_head`, which puts
+// zeros where the pool has no such slot and so asks the pool each time; what both need is `stretch_from`.
 fn copy_stretch(
     e: Edition,
     pool: &[u8],
@@ -48,6 +49,7 @@ pub fn read_at(
     requires reading { Reading e n pool.now row.now k offset (length out.old) }
     ensures { out.new ≡ part offset (length out.old) (spelt e pool.now (take k row.now)) }
 {
+    // Not chunks of out: the first stretch may begin inside a leaf, and each turn goes on by as many bytes as it copied.
     let mut pos = 0;
     while pos < out.len() {
         pos = copy_stretch(e, pool, row, n, k, offset, pos, out);

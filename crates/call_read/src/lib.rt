@@ -11,9 +11,8 @@ ghost use Rattle.check_gate.specs.Gate.{Whole};
 ghost use Rattle.check_gate.specs.Places.{Clear};
 ghost use Rattle.call_read.specs.copy.{spelt, Readable, read_spelt};
 
-use check_blob::notes::Walked;
-use check_gate::Opened;
-use meaning::{Edition, Finished};
+use base_bytes::range;
+use meaning::{Edition, Reason, Refusal};
 
 // Refusal 10, or the whole output filled: of a blob of so many bytes, whose leaves lie in the row's first k slots.
 fn read_found(
@@ -25,21 +24,18 @@ fn read_found(
     k: usize,
     offset: u64,
     out: &mut [u8],
-) -> Finished
+) -> Result<(), Refusal>
     requires proper { Proper e }
     requires k_in_bounds { (k ≤ length row.now) × (length pool.now ≡ e.size * n) }
     requires readable { Readable e n pool.now (take k row.now) }
     requires bytes_value { bytes ≡ length (spelt e pool.now (take k row.now)) }
     ensures { Reads (read_spelt offset (length out.old) (spelt e pool.now (take k row.now))) result out.old out.new }
 {
-    if bytes < offset {
-        return Finished::Refused(meaning::refuse_nowhere(10));
-    }
-    if bytes - offset < out.len() as u64 {
-        return Finished::Refused(meaning::refuse_nowhere(10));
+    if !range::lies_within(bytes, offset, out.len() as u64) {
+        return Err(meaning::refuse_nowhere(Reason::OutOfRange));
     }
     copy::read_at(e, pool, row, n, k, offset as usize, out);
-    Finished::Done
+    Ok(())
 }
 
 // Refusal 3 and the blob check, then the read.
@@ -53,16 +49,14 @@ fn read_in(
     root: u64,
     offset: u64,
     out: &mut [u8],
-) -> Finished
+) -> Result<(), Refusal>
     requires proper { Proper e }
     requires whole { Whole e n pool.now records.now }
     requires seen_value { (seen.old ≡ replicate n 0) × (length row.old ≡ n) }
     ensures { Reads (read_in e n pool.now records.now root offset (length out.old)) result out.old out.new }
 {
-    match check_blob::open::open_blob(e, pool, records, seen, row, n, root) {
-        Walked::Fault(r) => Finished::Refused(r),
-        Walked::Fine(bytes, k) => read_found(e, pool, row, n, bytes, k, offset, out),
-    }
+    let (bytes, k) = check_blob::open::open_blob(e, pool, records, seen, row, n, root)?;
+    read_found(e, pool, row, n, bytes, k, offset, out)
 }
 
 // The whole call: refusals 1 and 2, then the read. Flags and row have a place for each slot of the pool.
@@ -75,25 +69,21 @@ pub fn read_call(
     root: u64,
     offset: u64,
     out: &mut [u8],
-) -> Finished
+) -> Result<(), Refusal>
     requires proper { Proper e }
     requires clear { Clear e pool.now seen.old × (slots_in e pool.now ≤ length row.old) }
     ensures { Reads (read_call e pool.now records.now root offset (length out.old)) result out.old out.new }
 {
-    match check_gate::open(e, pool, records) {
-        Opened::Refused(r) => Finished::Refused(r),
-        Opened::Slots(n) => {
-            read_in(
-                e,
-                pool,
-                records,
-                &mut seen[0..n],
-                &mut row[0..n],
-                n,
-                root,
-                offset,
-                out,
-            )
-        }
-    }
+    let n = check_gate::open(e, pool, records)?;
+    read_in(
+        e,
+        pool,
+        records,
+        &mut seen[0..n],
+        &mut row[0..n],
+        n,
+        root,
+        offset,
+        out,
+    )
 }

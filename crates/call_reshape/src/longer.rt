@@ -10,6 +10,7 @@ ghost use Rattle.plan_longer.specs.towers.{Towers, RootBlock};
 ghost use Rattle.plan_longer.specs.Plans.{AllHere, grow_plans};
 
 use crate::longer_slots;
+use check_survey::marks::Notes;
 use meaning::Edition;
 use plan_longer::fresh::Growth;
 use plan_longer::towers::Tower;
@@ -23,8 +24,7 @@ pub fn grow(
     pool: &mut [u8],
     records: &mut [u8],
     free: &[u32],
-    heights: &[u8],
-    firsts: &[u32],
+    notes: Notes,
     kept: &mut [u8],
     payload: &mut [u8],
     scratch: &mut [u8],
@@ -36,13 +36,13 @@ pub fn grow(
     requires towers { Towers e g t }
     requires root_block { RootBlock e g t (block e pool.old root) }
     requires whole { Whole e n pool.old records.old }
-    requires all_here { AllHere e g n pool.old records.old heights.now firsts.now root }
+    requires all_here { AllHere e g n pool.old records.old notes.heights.now notes.firsts.now root }
     requires kept_len { (length kept.old ≡ e.size) × (length payload.old ≡ e.leaf) × (length scratch.old ≡ e.size) × (root < n) }
-    ensures pool_after { pool.new ≡ puts e.size (λ c. c.block) (over (grow_plans e g t pool.old records.old free.now heights.now firsts.now (block e pool.old root) root) 0 n) pool.old }
-    ensures records_after { records.new ≡ puts 12 (λ c. c.line) (over (grow_plans e g t pool.old records.old free.now heights.now firsts.now (block e pool.old root) root) 0 n) records.old }
+    ensures pool_after { pool.new ≡ puts e.size (λ c. c.block) (over (grow_plans e g t pool.old records.old free.now notes.entry.heights.now notes.entry.firsts.now (block e pool.old root) root) 0 n) pool.old }
+    ensures records_after { records.new ≡ puts 12 (λ c. c.line) (over (grow_plans e g t pool.old records.old free.now notes.entry.heights.now notes.entry.firsts.now (block e pool.old root) root) 0 n) records.old }
 {
     keep::keep_root(e, pool, kept, root);
     longer_slots::grow_all(
-        e, g, t, pool, records, free, heights, firsts, kept, payload, scratch, n, root,
+        e, g, t, pool, records, free, notes, kept, payload, scratch, n, root,
     );
 }

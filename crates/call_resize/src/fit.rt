@@ -10,6 +10,7 @@ ghost use Rattle.call_resize.specs.fit.Found.{resized_to, Drafts, Shorter, Longe
 use base_shape::shape;
 use base_slot::{fields, slot};
 use call_reshape::{longer, shorter};
+use check_survey::marks::Notes;
 use meaning::Edition;
 use plan_longer::fresh::Growth;
 use plan_longer::towers::Tower;
@@ -38,8 +39,7 @@ pub fn shorten(
     e: Edition,
     pool: &mut [u8],
     records: &mut [u8],
-    heights: &[u8],
-    firsts: &[u32],
+    notes: Notes,
     kept: &mut [u8],
     payload: &mut [u8],
     scratch: &mut [u8],
@@ -49,7 +49,7 @@ pub fn shorten(
     want: usize,
 )
     requires proper { Proper e }
-    requires shorter { Shorter e n pool.old records.old root heights.now firsts.now short want }
+    requires shorter { Shorter e n pool.old records.old root notes.heights.now notes.firsts.now short want }
     requires drafts { Drafts e kept.old payload.old scratch.old }
     ensures pool_after { pool.new ≡ puts e.size (λ c. c.block) (resized_to e n pool.old records.old root short) pool.old }
     ensures records_after { records.new ≡ puts 12 (λ c. c.line) (resized_to e n pool.old records.old root short) records.old }
@@ -62,7 +62,7 @@ pub fn shorten(
         top: top,
     };
     shorter::cut_blob(
-        e, c, pool, records, heights, firsts, kept, payload, scratch, n, root, h,
+        e, c, pool, records, notes, kept, payload, scratch, n, root, h,
     );
 }
 
@@ -83,8 +83,7 @@ pub fn lengthen(
     pool: &mut [u8],
     records: &mut [u8],
     free: &[u32],
-    heights: &[u8],
-    firsts: &[u32],
+    notes: Notes,
     kept: &mut [u8],
     payload: &mut [u8],
     scratch: &mut [u8],
@@ -95,7 +94,7 @@ pub fn lengthen(
     want: usize,
 )
     requires proper { Proper e }
-    requires longer { Longer e n pool.old records.old root leaves heights.now firsts.now free.now long want }
+    requires longer { Longer e n pool.old records.old root leaves notes.heights.now notes.firsts.now free.now long want }
     requires drafts { Drafts e kept.old payload.old scratch.old }
     ensures pool_after { pool.new ≡ puts e.size (λ c. c.block) (resized_to e n pool.old records.old root long) pool.old }
     ensures records_after { records.new ≡ puts 12 (λ c. c.line) (resized_to e n pool.old records.old root long) records.old }
@@ -107,6 +106,6 @@ pub fn lengthen(
         more: want - leaves,
     };
     longer::grow(
-        e, g, t, pool, records, free, heights, firsts, kept, payload, scratch, n, root,
+        e, g, t, pool, records, free, notes, kept, payload, scratch, n, root,
     );
 }

@@ -2,15 +2,16 @@
 ghost use Rattle.std.specs.Prelude.{◌≡◌, length};
 ghost use Rattle.meaning.specs.Edition.{Proper};
 ghost use Rattle.meaning.specs.Calls.{resize_in};
-ghost use Rattle.meaning.specs.Answers.{change_answer, Ends};
+ghost use Rattle.meaning.specs.Answers.{answer_of, Ends};
 ghost use Rattle.check_gate.specs.Gate.{Whole};
 ghost use Rattle.call_resize.specs.fit.Found.{Found, Drafts};
 
 use crate::either;
 use base_shape::shape;
 use base_slot::usable;
+use check_survey::marks::Notes;
 use check_survey::refusal;
-use meaning::{Changed, Edition};
+use meaning::{Edition, Refusal};
 
 // All is known before the first byte is written.
 pub fn resize_found(
@@ -18,8 +19,7 @@ pub fn resize_found(
     pool: &mut [u8],
     records: &mut [u8],
     row: &mut [u32],
-    heights: &[u8],
-    firsts: &[u32],
+    notes: Notes,
     kept: &mut [u8],
     payload: &mut [u8],
     scratch: &mut [u8],
@@ -28,27 +28,23 @@ pub fn resize_found(
     bytes: usize,
     leaves: usize,
     len: u64,
-) -> Changed
+) -> Result<(), Refusal>
     requires proper { Proper e }
     requires whole { Whole e n pool.old records.old }
-    requires found { Found e n pool.old records.old root bytes leaves heights.now firsts.now }
+    requires found { Found e n pool.old records.old root bytes leaves notes.heights.now notes.firsts.now }
     requires drafts { Drafts e kept.old payload.old scratch.old }
     requires row_len { length row.old ≡ n }
-    ensures { Ends e change_answer (resize_in e n pool.old records.old root len) pool.old records.old result pool.new records.new }
+    ensures { Ends e answer_of (resize_in e n pool.old records.old root len) pool.old records.old result pool.new records.new }
 {
     let free = usable::list(records, row, n);
-    let number = refusal::resize::barred(e, records, heights, n, leaves, len, free);
-    if number != 0 {
-        return Changed::Refused(meaning::refuse_nowhere(number));
-    }
+    refusal::resize::barred(e, records, notes.heights, n, leaves, len, free)?;
     let want = shape::leaf_count(e.leaf as u64, len);
     either::resize_blob(
         e,
         pool,
         records,
         &row[0..free],
-        heights,
-        firsts,
+        notes,
         kept,
         payload,
         scratch,
@@ -59,5 +55,5 @@ pub fn resize_found(
         len as usize,
         want as usize,
     );
-    Changed::Done
+    Ok(())
 }

@@ -7,12 +7,12 @@ pub mod found;
 
 ghost use Rattle.meaning.specs.Edition.{Proper};
 ghost use Rattle.meaning.specs.Calls.{resize_call};
-ghost use Rattle.meaning.specs.Answers.{change_answer, Ends};
+ghost use Rattle.meaning.specs.Answers.{answer_of, Ends};
 ghost use Rattle.call_resize.specs.fit.Found.{Drafts};
 ghost use Rattle.check_survey.specs.Reached.{Rows};
 
-use check_survey::Reached;
-use meaning::{Changed, Edition};
+use check_survey::marks::Notes;
+use meaning::{Edition, Refusal};
 
 // Resize: refusals 1, 2 and 3 and the pool check, then what is behind them.
 pub fn resize_call(
@@ -28,29 +28,31 @@ pub fn resize_call(
     scratch: &mut [u8],
     root: u64,
     len: u64,
-) -> Changed
+) -> Result<(), Refusal>
     requires proper { Proper e }
     requires rows { Rows e pool.old seen.old row.old heights.old firsts.old }
     requires drafts { Drafts e kept.old payload.old scratch.old }
-    ensures { Ends e change_answer (resize_call e pool.old records.old root len) pool.old records.old result pool.new records.new }
+    ensures { Ends e answer_of (resize_call e pool.old records.old root len) pool.old records.old result pool.new records.new }
 {
-    match check_survey::reach(e, pool, records, seen, row, heights, firsts, root) {
-        Reached::Refused(r) => Changed::Refused(r),
-        Reached::Blob(n, bytes, leaves) => found::resize_found(
-            e,
-            pool,
-            records,
-            &mut row[0..n],
-            &heights[0..n],
-            &firsts[0..n],
-            kept,
-            payload,
-            scratch,
-            n,
-            root as usize,
-            bytes as usize,
-            leaves,
-            len,
-        ),
-    }
+    let reached = check_survey::reach(e, pool, records, seen, row, heights, firsts, root)?;
+    let n = reached.slots;
+    let notes = Notes {
+        heights: &heights[0..n],
+        firsts: &firsts[0..n],
+    };
+    found::resize_found(
+        e,
+        pool,
+        records,
+        &mut row[0..n],
+        notes,
+        kept,
+        payload,
+        scratch,
+        n,
+        root as usize,
+        reached.bytes as usize,
+        reached.leaves,
+        len,
+    )
 }

@@ -8,9 +8,7 @@ ghost use Rattle.check_gate.specs.Places.{Clear};
 ghost use Rattle.call_show.specs.place.{Lies};
 
 use crate::place;
-use check_blob::notes::Walked;
-use check_gate::Opened;
-use meaning::{Edition, Leaf};
+use meaning::{Edition, Refusal};
 
 // Refusal 3 and the blob check, then the leaf's place.
 fn find_leaf_in(
@@ -22,17 +20,15 @@ fn find_leaf_in(
     n: usize,
     root: u64,
     i: u64,
-) -> Leaf
+) -> Result<(usize, usize), Refusal>
     requires proper { Proper e }
     requires whole { Whole e n pool.now records.now }
     requires seen_value { (seen.old ≡ replicate n 0) × (length row.old ≡ n) }
     ensures value { result ≡ leaf_answer e (show_in e n pool.now records.now root i) }
     ensures lies { Lies result (length pool.now) }
 {
-    match check_blob::open::open_blob(e, pool, records, seen, row, n, root) {
-        Walked::Fault(r) => Leaf::Refused(r),
-        Walked::Fine(_, k) => place::leaf_found(e, pool, row, n, k, i),
-    }
+    let (_, k) = check_blob::open::open_blob(e, pool, records, seen, row, n, root)?;
+    place::leaf_found(e, pool, row, n, k, i)
 }
 
 // The whole call: refusals 1 and 2, then the leaf's place. Flags and row have a place for each slot of the pool.
@@ -44,25 +40,21 @@ pub fn find_leaf_call(
     row: &mut [u32],
     root: u64,
     i: u64,
-) -> Leaf
+) -> Result<(usize, usize), Refusal>
     requires proper { Proper e }
     requires clear { Clear e pool.now seen.old × (slots_in e pool.now ≤ length row.old) }
     ensures value { result ≡ leaf_answer e (show_call e pool.now records.now root i) }
     ensures lies { Lies result (length pool.now) }
 {
-    match check_gate::open(e, pool, records) {
-        Opened::Refused(r) => Leaf::Refused(r),
-        Opened::Slots(n) => {
-            find_leaf_in(
-                e,
-                pool,
-                records,
-                &mut seen[0..n],
-                &mut row[0..n],
-                n,
-                root,
-                i,
-            )
-        }
-    }
+    let n = check_gate::open(e, pool, records)?;
+    find_leaf_in(
+        e,
+        pool,
+        records,
+        &mut seen[0..n],
+        &mut row[0..n],
+        n,
+        root,
+        i,
+    )
 }

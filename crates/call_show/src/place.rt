@@ -5,10 +5,17 @@ ghost use Rattle.meaning.specs.Answers.{leaf_answer};
 ghost use Rattle.call_show.specs.place.{Below, Lies, show_spelt};
 
 use base_slot::{fields, slot};
-use meaning::{Edition, Leaf};
+use meaning::{Edition, Reason, Refusal};
 
 // Refusal 10, or the place of leaf number i, of the leaves in the row's first k slots.
-pub fn leaf_found(e: Edition, pool: &[u8], row: &[u32], n: usize, k: usize, i: u64) -> Leaf
+pub fn leaf_found(
+    e: Edition,
+    pool: &[u8],
+    row: &[u32],
+    n: usize,
+    k: usize,
+    i: u64,
+) -> Result<(usize, usize), Refusal>
     requires proper { Proper e }
     requires k_in_bounds { (k ≤ length row.now) × (length pool.now ≡ e.size * n) }
     requires below { Below e n pool.now (take k row.now) }
@@ -16,10 +23,10 @@ pub fn leaf_found(e: Edition, pool: &[u8], row: &[u32], n: usize, k: usize, i: u
     ensures lies { Lies result (length pool.now) }
 {
     if k as u64 <= i {
-        return Leaf::Refused(meaning::refuse_nowhere(10));
+        return Err(meaning::refuse_nowhere(Reason::OutOfRange));
     }
     let at = i as usize;
     let slot = check_blob::row::slot_at(row, at);
     let count = fields::count_of(slot::block_of(e, pool, slot));
-    Leaf::At(slot::payload_start(e, pool, slot), count)
+    Ok((slot::payload_start(e, pool, slot), count))
 }

@@ -8,7 +8,7 @@ ghost use Rattle.meaning.specs.Answers.{Wipes};
 
 use base_bytes::runs;
 use base_slot::{record, slot};
-use meaning::{Edition, Finished};
+use meaning::{Edition, Reason, Refusal};
 
 // Each record becomes that of a slot never taken.
 fn free_all(records: &mut [u8], n: usize)
@@ -16,23 +16,21 @@ fn free_all(records: &mut [u8], n: usize)
     ensures { records.new ≡ free_records n }
 {
     let line = record::build(0, 0, 0);
-    let mut i = 0;
-    while i < n {
+    for i in 0..n {
         slot::store_record(records, i, &line);
-        i += 1;
     }
 }
 
 // Refusal 1 only; then everything is wiped.
-pub fn wipe_call(e: Edition, pool: &mut [u8], records: &mut [u8]) -> Finished
+pub fn wipe_call(e: Edition, pool: &mut [u8], records: &mut [u8]) -> Result<(), Refusal>
     requires { Proper e }
     ensures { Wipes e pool.old records.old result pool.new records.new }
 {
     if !check_gate::is_sized(e, pool, records) {
-        return Finished::Refused(meaning::refuse_nowhere(1));
+        return Err(meaning::refuse_nowhere(Reason::WrongLengths));
     }
     let n = pool.len() / e.size;
     runs::clear(pool);
     free_all(records, n);
-    Finished::Done
+    Ok(())
 }

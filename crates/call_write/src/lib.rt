@@ -6,11 +6,11 @@ pub mod put;
 ghost use Rattle.std.specs.Prelude.{◌≡◌, ◌+◌};
 ghost use Rattle.meaning.specs.Edition.{Proper};
 ghost use Rattle.meaning.specs.Calls.{write_call};
-ghost use Rattle.meaning.specs.Answers.{change_answer, Ends};
+ghost use Rattle.meaning.specs.Answers.{answer_of, Ends};
 ghost use Rattle.check_survey.specs.Reached.{Rows};
 
-use check_survey::Reached;
-use meaning::{Changed, Edition};
+use check_survey::marks::Notes;
+use meaning::{Edition, Refusal};
 
 // Write: refusals 1, 2 and 3 and the pool check, then what is noted of the blob decides.
 pub fn write_call(
@@ -24,26 +24,17 @@ pub fn write_call(
     root: u64,
     offset: u64,
     src: &[u8],
-) -> Changed
+) -> Result<(), Refusal>
     requires proper { Proper e }
     requires size_value { e.size ≡ 16 + e.leaf }
     requires rows { Rows e pool.old seen.old row.old heights.old firsts.old }
-    ensures { Ends e change_answer (write_call e pool.old records.old root offset src.now) pool.old records.old result pool.new records.new }
+    ensures { Ends e answer_of (write_call e pool.old records.old root offset src.now) pool.old records.old result pool.new records.new }
 {
-    match check_survey::reach(e, pool, records, seen, row, heights, firsts, root) {
-        Reached::Refused(r) => Changed::Refused(r),
-        Reached::Blob(n, bytes, _) => {
-            put::write_noted(
-                e,
-                pool,
-                records,
-                &heights[0..n],
-                &firsts[0..n],
-                src,
-                n,
-                bytes,
-                offset,
-            )
-        }
-    }
+    let reached = check_survey::reach(e, pool, records, seen, row, heights, firsts, root)?;
+    let n = reached.slots;
+    let notes = Notes {
+        heights: &heights[0..n],
+        firsts: &firsts[0..n],
+    };
+    put::write_noted(e, pool, records, notes, src, n, reached.bytes, offset)
 }

@@ -2,15 +2,16 @@
 ghost use Rattle.std.specs.Prelude.{◌≡◌, ◌+◌};
 ghost use Rattle.meaning.specs.Edition.{Proper};
 ghost use Rattle.meaning.specs.Change.{puts};
-ghost use Rattle.meaning.specs.Answers.{change_answer, Ends};
+ghost use Rattle.meaning.specs.Answers.{answer_of, Ends};
 ghost use Rattle.check_gate.specs.Gate.{Whole};
 ghost use Rattle.plan_slot.specs.change.Turns.{over};
 ghost use Rattle.plan_write.specs.stretch.{write_plan};
 ghost use Rattle.plan_write.specs.rewriting.{Unworn};
 ghost use Rattle.call_write.specs.put.{Leaves, write_noted};
 
+use check_survey::marks::Notes;
 use check_survey::refusal;
-use meaning::{Changed, Edition};
+use meaning::{Edition, Refusal};
 use plan_write::patch;
 
 // Every slot that changes is stored, rising.
@@ -18,8 +19,7 @@ fn write_all(
     e: Edition,
     pool: &mut [u8],
     records: &mut [u8],
-    heights: &[u8],
-    firsts: &[u32],
+    notes: Notes,
     src: &[u8],
     n: usize,
     offset: usize,
@@ -27,14 +27,13 @@ fn write_all(
     requires proper { Proper e }
     requires size_value { e.size ≡ 16 + e.leaf }
     requires whole { Whole e n pool.old records.old }
-    requires leaves { Leaves e n pool.old records.old heights.now firsts.now }
-    ensures pool_after { pool.new ≡ puts e.size (λ c. c.block) (over (write_plan e pool.old records.old heights.now firsts.now src.now offset) 0 n) pool.old }
-    ensures records_after { records.new ≡ puts 12 (λ c. c.line) (over (write_plan e pool.old records.old heights.now firsts.now src.now offset) 0 n) records.old }
+    requires leaves { Leaves e n pool.old records.old notes.heights.now notes.firsts.now }
+    ensures pool_after { pool.new ≡ puts e.size (λ c. c.block) (over (write_plan e pool.old records.old notes.entry.heights.now notes.entry.firsts.now src.now offset) 0 n) pool.old }
+    ensures records_after { records.new ≡ puts 12 (λ c. c.line) (over (write_plan e pool.old records.old notes.entry.heights.now notes.entry.firsts.now src.now offset) 0 n) records.old }
 {
-    let mut i = 0;
-    while i < n {
-        patch::write_slot(e, pool, records, heights, firsts, src, offset, i);
-        i += 1;
+    // Not one loop with a delete's and a resize's: each is one call a slot, lent other slices, and a trait of plans with its law is no plainer.
+    for i in 0..n {
+        patch::write_slot(e, pool, records, notes, src, offset, i);
     }
 }
 
@@ -43,23 +42,19 @@ pub fn write_noted(
     e: Edition,
     pool: &mut [u8],
     records: &mut [u8],
-    heights: &[u8],
-    firsts: &[u32],
+    notes: Notes,
     src: &[u8],
     n: usize,
     bytes: u64,
     offset: u64,
-) -> Changed
+) -> Result<(), Refusal>
     requires proper { Proper e }
     requires size_value { e.size ≡ 16 + e.leaf }
     requires whole { Whole e n pool.old records.old }
-    requires unworn { Unworn e n pool.old records.old heights.now firsts.now }
-    ensures { Ends e change_answer (write_noted e n pool.old records.old heights.now firsts.now bytes offset src.now) pool.old records.old result pool.new records.new }
+    requires unworn { Unworn e n pool.old records.old notes.heights.now notes.firsts.now }
+    ensures { Ends e answer_of (write_noted e n pool.old records.old notes.entry.heights.now notes.entry.firsts.now bytes offset src.now) pool.old records.old result pool.new records.new }
 {
-    let number = refusal::write::barred(records, heights, n, bytes, offset, src.len());
-    if number != 0 {
-        return Changed::Refused(meaning::refuse_nowhere(number));
-    }
-    write_all(e, pool, records, heights, firsts, src, n, offset as usize);
-    Changed::Done
+    refusal::write::barred(records, notes.heights, n, bytes, offset, src.len())?;
+    write_all(e, pool, records, notes, src, n, offset as usize);
+    Ok(())
 }

@@ -1,4 +1,5 @@
 -- What a call lends behind refusals 1 and 2: the first n places of flags and rows that have a place for each slot of the pool.
+use Rattle.std.specs.Prelude.{Ok}
 use mathlib.Core.Path.{◌≡◌, ap, ◌∙◌, sym}
 use mathlib.Core.List.{List, ◌++◌}
 use Prim.Native.Nat.{ℕ, ◌+◌, ◌-◌, ◌≤◌}
@@ -7,9 +8,7 @@ use lib.ListN.{length, take, drop, replicate, length-replicate, replicate-append
 use lib.Seq.{take_at, length-take-le}
 use Rattle.meaning.specs.Calls.{slots_in}
 use Rattle.meaning.specs.declared.Edition.{Edition}
-use Rattle.check_gate.specs.declared.Opened.{Opened}
-use Rattle.check_gate.specs.declared.Opened.TheVariants.{Slots}
-use Rattle.check_gate.specs.Gate.{gate}
+use Rattle.check_gate.specs.Gate.{gate, Opened}
 use Rattle.check_gate.specs.Places.{Clear}
 use Rattle.check_gate.proofs.BehindTheGate.{gate_slots}
 
@@ -21,7 +20,7 @@ zeros_front m n h =
     ap (λ (j : ℕ). replicate {A = ℕ} j 0) (sym k) ∙ sym (replicate-append-replicate n (m - n) 0) in
     ap (take n) z ∙ take_at (replicate n 0) (replicate (m - n) 0) n (length-replicate n 0)
 
-module _ (e : Edition) (P R : List ℕ) (x : Opened) (ex : x ≡ gate e P R) (n : ℕ) (en : x ≡ Slots n) where
+module _ (e : Edition) (P R : List ℕ) (x : Opened) (ex : x ≡ gate e P R) (n : ℕ) (en : x ≡ Ok n) where
   -- a row
   module _ (o : List ℕ) (lo : slots_in e P ≤ length o) where
     pub row_reaches : n ≤ length o

@@ -1,4 +1,5 @@
 -- What every reading call on one blob shares: refusal 3, the blob check, and the blob behind them.
+use Rattle.std.specs.Prelude.{Err, Ok}
 use mathlib.Core.Path.{◌≡◌, refl, ap, ◌∙◌, sym}
 use mathlib.Core.Bool.{Bool, true, false, not}
 use mathlib.Core.List.{List}
@@ -7,6 +8,7 @@ use native.Mathlib.Omega.{arith}
 use borrow.Author.Tests.{ltb-true, eqb-true, not-true, not-false}
 use lib.Dec.{eqb, ltb}
 use lib.ListN.{length, replicate, length-replicate}
+use Rattle.meaning.specs.declared.Reason.TheVariants.{NotARoot}
 use Rattle.meaning.specs.Lists.{pick, both}
 use Rattle.meaning.specs.Bytes.{state}
 use Rattle.meaning.specs.Tree.{Blob, content_of, leaves_of, length_of}
@@ -19,9 +21,7 @@ use Rattle.laws.proofs.Inversions.{both_true}
 use Rattle.laws.proofs.Walked.{leaf_slots}
 use Rattle.check_gate.specs.Gate.{Whole}
 use Rattle.check_blob.specs.visit.{Sized}
-use Rattle.check_blob.specs.declared.notes.Walked.{Walked}
-use Rattle.check_blob.specs.declared.notes.Walked.TheVariants.{Fault, Fine}
-use Rattle.check_blob.specs.notes.{Noted, met, map_found, put_all, note_leaves, note_tree, note_blob, note_root}
+use Rattle.check_blob.specs.notes.{Noted, met, map_found, put_all, note_leaves, note_tree, note_blob, note_root, Walked}
 use Rattle.check_blob.specs.Rooted.{open_noted}
 use Rattle.check_blob.proofs.notes.Answering.{noted_fault, noted_fine}
 
@@ -47,7 +47,7 @@ pub record Blobbed (e : Edition) (n : ℕ) (P R : List ℕ) (r b k : ℕ) (o sx 
 
 -- the code's two ways: not a root, or the walk's answer
 module _ (e : Edition) (n : ℕ) (P R : List ℕ) (r : ℕ) (o : List ℕ) (t : Bool) (et : t ≡ both (ltb r n) (eqb (state R r) 2)) where
-  pub open_unrooted : not t ≡ true → (q : Refusal) → q ≡ nowhere 3 → (sx ox : List ℕ) → met (Fault q) sx ox ≡ open_noted e n P R r o
+  pub open_unrooted : not t ≡ true → (q : Refusal) → q ≡ nowhere NotARoot → (sx ox : List ℕ) → met (Err q) sx ox ≡ open_noted e n P R r o
   unfolding open_noted met pick
   open_unrooted p q eq sx ox = rw eq (simp (← et, not-true t p))
 
@@ -62,22 +62,22 @@ unfolding pick
 pick_fine true F q x sx e = (refl, e)
 pick_fine false F q x sx e = (cc, cc)
 
-noted_blob_fault : (o : List ℕ) (f : Refusal) (t : Bool) (F : Found Blob) → fault f ≡ pick t (map_found (note_blob o) F) (fault (nowhere 3))
-    → {A : Type 0} (k : Blob → Outcome A) → refuse_if (not t) 3 (after_check F k) ≡ refused f
+noted_blob_fault : (o : List ℕ) (f : Refusal) (t : Bool) (F : Found Blob) → fault f ≡ pick t (map_found (note_blob o) F) (fault (nowhere NotARoot))
+    → {A : Type 0} (k : Blob → Outcome A) → refuse_if (not t) NotARoot (after_check F k) ≡ refused f
 unfolding pick refuse_if after_check
 noted_blob_fault o f true F e k = rw (noted_fault (note_blob o) f F e)
 noted_blob_fault o f false F e k = cc
 
 module _ (e : Edition) (n : ℕ) (P R : List ℕ) (r : ℕ) (o : List ℕ) (w : Walked) (sx ox : List ℕ) (ew : met w sx ox ≡ open_noted e n P R r o) where
-  pub open_fault : (f : Refusal) → w ≡ Fault f → {A : Type 0} (k : Blob → Outcome A) → reading e n P R r k ≡ refused f
+  pub open_fault : (f : Refusal) → w ≡ Err f → {A : Type 0} (k : Blob → Outcome A) → reading e n P R r k ≡ refused f
   unfolding met open_noted reading rooted note_root blob_check
   open_fault f ef k = noted_blob_fault o f (both (ltb r n) (eqb (state R r) 2)) (from_root e n P R (replicate n 0) r) (rw ef at ew) k
 
-  module _ (b k : ℕ) (eb : w ≡ Fine b k) where
+  module _ (b k : ℕ) (eb : w ≡ Ok (b, k)) where
     opened : (both (ltb r n) (eqb (state R r) 2) ≡ true)
         × (fine (record { bytes = b; leaves = k; row = ox }) sx ≡ note_root e n P R (replicate n 0) r o)
     unfolding met open_noted
-    opened = pick_fine (both (ltb r n) (eqb (state R r) 2)) (note_root e n P R (replicate n 0) r o) (nowhere 3) _ sx (rw eb at ew)
+    opened = pick_fine (both (ltb r n) (eqb (state R r) 2)) (note_root e n P R (replicate n 0) r o) (nowhere NotARoot) _ sx (rw eb at ew)
 
     pub open_below : r < n
     open_below = ltb-true r n (both_true _ _ opened.0).0

@@ -1,4 +1,5 @@
 -- Behind refusal 3 and the blob check the row's first places are the slots of the blob's leaves.
+use Rattle.std.specs.Prelude.{Ok}
 use mathlib.Core.Path.{◌≡◌, ap, ◌∙◌, sym}
 use mathlib.Core.List.{List}
 use Prim.Native.Nat.{ℕ, ◌+◌, ◌≤◌, ◌<◌}
@@ -11,9 +12,7 @@ use Rattle.meaning.specs.declared.Edition.{Edition}
 use Rattle.laws.proofs.Walked.{leaf_slots, leaf_slots_length}
 use Rattle.laws.proofs.Marks.{walk_few}
 use Rattle.check_gate.specs.Gate.{Whole}
-use Rattle.check_blob.specs.declared.notes.Walked.{Walked}
-use Rattle.check_blob.specs.declared.notes.Walked.TheVariants.{Fine}
-use Rattle.check_blob.specs.notes.{met}
+use Rattle.check_blob.specs.notes.{met, Walked}
 use Rattle.check_blob.proofs.notes.Putting.{put_there, put_length}
 use Rattle.check_blob.specs.Rooted.{open_noted}
 use Rattle.check_blob.proofs.Opening.{Blobbed, open_below, open_found}
@@ -41,6 +40,6 @@ module _ (e : Edition) (p : Proper e) (n : ℕ) (P R : List ℕ) (w : Whole e n 
 
 -- the leaves that the code's answer counts lie in the row
 pub found_length : (e : Edition) (n : ℕ) (P R : List ℕ) (r : ℕ) (o : List ℕ) (w : Walked) (sx ox : List ℕ) → met w sx ox ≡ open_noted e n P R r o
-    → (b k : ℕ) → w ≡ Fine b k → Proper e → Whole e n P R → length o ≡ n → k ≤ length ox
+    → (b k : ℕ) → w ≡ Ok (b, k) → Proper e → Whole e n P R → length o ≡ n → k ≤ length ox
 found_length e n P R r o w sx ox ew b k eb p z lo =
     row_length e p n P R z r b k o sx ox (open_found e n P R r o w sx ox ew b k eb) (open_below e n P R r o w sx ox ew b k eb) lo

@@ -1,15 +1,14 @@
 -- What the code's walk says of the tree that the definition's walk finds: its bytes, its leaves, and the row of leaf slots.
-use Rattle.std.specs.Prelude.{◌≡◌, Bool, List, [], ◌∷◌, map, ℕ, ◌+◌, ◌*◌, ◌≤◌, ◌<◌, eqb, length, set}
+use Rattle.std.specs.Prelude.{◌≡◌, Bool, List, [], ◌∷◌, map, ℕ, ◌+◌, ◌*◌, ◌≤◌, ◌<◌, eqb, length, set, Err, Ok, Result}
 use Rattle.meaning.specs.Lists.{both, joined}
 use Rattle.meaning.specs.Tree.{Tree, Blob, content, leaves}
 use Rattle.meaning.specs.Walk.{Found, fault, fine, visit_row, visit, from_root}
 use Rattle.meaning.specs.declared.Edition.{Edition}
 use Rattle.meaning.specs.declared.Role.{Role}
 use Rattle.meaning.specs.declared.Role.TheVariants.{Root, Child}
+use Rattle.meaning.specs.declared.Refusal.{Refusal}
 use Rattle.laws.proofs.Marks.{marks}
 use Rattle.check_blob.specs.visit.{Sized, Within}
-use Rattle.check_blob.specs.declared.notes.Walked.{Walked}
-use Rattle.check_blob.specs.declared.notes.Walked.TheVariants.{Fault, Fine}
 
 -- bytes and leaves so far, and the row in which leaf slots are noted
 pub record Noted : Type 0 where
@@ -17,10 +16,14 @@ pub record Noted : Type 0 where
   pub leaves : ℕ
   pub row : List ℕ
 
+-- what a walk answers: the bytes and the leaves so far, or its first fault
+abbrev pub Walked : Type 0
+Walked = Result (ℕ × ℕ) Refusal
+
 -- the code's answer with the flags and the row that it leaves; at a fault those say nothing
 unfoldable pub met : Walked → (seen row : List ℕ) → Found Noted
-met (Fault r) seen o = fault r
-met (Fine b k) seen o = fine (record { bytes = b; leaves = k; row = o }) seen
+met (Err r) seen o = fault r
+met (Ok (b, k)) seen o = fine (record { bytes = b; leaves = k; row = o }) seen
 
 -- f of what was found
 unfoldable pub map_found : {A B : Type 0} → (A → B) → Found A → Found B
@@ -66,8 +69,8 @@ pub record Counted (b k : ℕ) (seen : List ℕ) : Type 0 where
   pub bytes : b ≤ 255 * k
 
 unfoldable pub Small : Walked → List ℕ → Type 0
-Small (Fault r) seen = Unit {0}
-Small (Fine b k) seen = Counted b k seen
+Small (Err r) seen = Unit {0}
+Small (Ok (b, k)) seen = Counted b k seen
 
 -- the walk from a root starts with no leaf
 unfoldable pub Fresh : Role → (k : ℕ) → Type 0

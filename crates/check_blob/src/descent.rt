@@ -7,10 +7,9 @@ ghost use Rattle.meaning.specs.Edition.{Proper};
 ghost use Rattle.meaning.specs.Bytes.{block};
 ghost use Rattle.check_blob.specs.notes.{met, note, notes, Small, BlockStart, RowStart};
 
-use crate::notes::Walked;
 use crate::{notes, visit};
 use base_slot::{fields, slot};
-use meaning::{Checked, Edition, Role};
+use meaning::{Edition, Refusal, Role};
 
 // Visits a root of height h, and then its row. The slots of its leaves are noted in order.
 pub fn visit_root(
@@ -22,36 +21,31 @@ pub fn visit_root(
     n: usize,
     h: usize,
     slot: usize,
-) -> Walked
+) -> Result<(u64, usize), Refusal>
     requires proper { Proper e }
     requires block_start { BlockStart e n pool.now records.now seen.old Role.Root slot 0 0 }
     ensures { met result seen.new row.new ≡ note e n pool.now records.now h Role.Root true seen.old slot 0 0 row.old }
 {
-    let checked = visit::check_and_mark(e, pool, records, seen, h, true, true, slot);
-    match checked {
-        Checked::Faulty(r) => Walked::Fault(r),
-        Checked::Passed => {
-            let count = fields::count_of(slot::block_of(e, pool, slot));
-            if h == 0 {
-                notes::note_leaf(row, 0, slot);
-                return Walked::Fine(count as u64, 1);
-            }
-            visit_row(
-                e,
-                pool,
-                records,
-                seen,
-                row,
-                n,
-                h - 1,
-                slot,
-                true,
-                count,
-                0,
-                0,
-            )
-        }
+    visit::check_and_mark(e, pool, records, seen, h, true, true, slot)?;
+    let count = fields::count_of(slot::block_of(e, pool, slot));
+    if h == 0 {
+        notes::note_leaf(row, 0, slot);
+        return Ok((count as u64, 1));
     }
+    visit_row(
+        e,
+        pool,
+        records,
+        seen,
+        row,
+        n,
+        h - 1,
+        slot,
+        true,
+        count,
+        0,
+        0,
+    )
 }
 
 // Visits a block of height h, and then its row. The slots of its leaves are noted in order.
@@ -69,29 +63,24 @@ fn visit_block(
     slot: usize,
     bytes: u64,
     leaves: usize,
-) -> Walked
+) -> Result<(u64, usize), Refusal>
     requires proper { Proper e }
     requires block_start { BlockStart e n pool.now records.now seen.old role slot bytes leaves }
     ensures row_after { met result seen.new row.new ≡ note e n pool.now records.now h role edge seen.old slot bytes leaves row.old }
     ensures small { Small result seen.new }
 {
-    let checked = visit::visit(e, pool, records, seen, n, h, role, edge, slot);
-    match checked {
-        Checked::Faulty(r) => Walked::Fault(r),
-        Checked::Passed => {
-            let count = fields::count_of(slot::block_of(e, pool, slot));
-            if h == 0 {
-                notes::note_leaf(row, leaves, slot);
-                return Walked::Fine(bytes + count as u64, leaves + 1);
-            }
-            let w = h - 1;
-            // A copy of its own for the row: the compiler then makes one for inner blocks only, and none for a leaf.
-            let below = e;
-            visit_row(
-                below, pool, records, seen, row, n, w, slot, edge, count, bytes, leaves,
-            )
-        }
+    visit::visit(e, pool, records, seen, n, h, role, edge, slot)?;
+    let count = fields::count_of(slot::block_of(e, pool, slot));
+    if h == 0 {
+        notes::note_leaf(row, leaves, slot);
+        return Ok((bytes + count as u64, leaves + 1));
     }
+    let w = h - 1;
+    // A copy of its own for the row: the compiler then makes one for inner blocks only, and none for a leaf.
+    let below = e;
+    visit_row(
+        below, pool, records, seen, row, n, w, slot, edge, count, bytes, leaves,
+    )
 }
 
 // Visits the children of a block, so many, each of height w, in order.
@@ -109,7 +98,7 @@ fn visit_row(
     count: usize,
     bytes: u64,
     leaves: usize,
-) -> Walked
+) -> Result<(u64, usize), Refusal>
     requires proper { Proper e }
     requires row_start { RowStart e n pool.now records.now seen.old parent 0 count bytes leaves }
     ensures row_after { met result seen.new row.new ≡ notes e n pool.now records.now w parent edge (fours count (drop 16 (block e pool.now parent))) seen.old bytes leaves row.old }
@@ -117,20 +106,17 @@ fn visit_row(
 {
     let mut b = bytes;
     let mut k = leaves;
-    let mut from = 0;
-    let mut left = count;
-    while left != 0 {
+    for from in 0..count {
         let child = visit::child_of(e, pool, parent, from);
-        let last = notes::last_of(edge, left);
+        let last = notes::last_of(edge, count - from);
         let role = Role::Child(parent);
         let here = visit_block(e, pool, records, seen, row, n, w, role, last, child, b, k);
-        let Walked::Fine(more, further) = here else {
+        // By let .. else, document 01's form where the answer's type stays the same.
+        let Ok((more, further)) = here else {
             return here;
         };
         b = more;
         k = further;
-        from += 1;
-        left -= 1;
     }
-    Walked::Fine(b, k)
+    Ok((b, k))
 }

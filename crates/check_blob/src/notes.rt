@@ -2,15 +2,6 @@
 ghost use Rattle.std.specs.Prelude.{◌≡◌, ◌^◌, ◌<◌, set};
 ghost use Rattle.check_blob.specs.notes.{last_of};
 
-use meaning::Refusal;
-
-// What a walk finds: its first fault, or the bytes and the leaves so far.
-#[derive(Clone, Copy, Drop)]
-pub enum Walked {
-    Fault(Refusal),
-    Fine(u64, usize),
-}
-
 // Notes a leaf's slot, if the row reaches that far.
 pub fn note_leaf(row: &mut [u32], at: usize, slot: usize)
     requires { slot < 2 ^ 32 }
@@ -22,8 +13,9 @@ pub fn note_leaf(row: &mut [u32], at: usize, slot: usize)
 }
 
 // Whether a child is on the right edge: the last one of a block that is.
+#[tactic(auto, unfolding(crate::specs::notes::last_of, meaning::specs::Lists::both))]
 pub fn last_of(edge: bool, left: usize) -> bool
     ensures { result ≡ last_of edge left }
 {
-    if edge { left == 1 } else { false }
+    edge && left == 1
 }

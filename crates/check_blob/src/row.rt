@@ -1,16 +1,10 @@
 // The row of leaf slots.
 ghost use Rattle.std.specs.Prelude.{◌≡◌, ◌<◌, length, get_or};
 
-fn wide(x: u32) -> usize
-    ensures { result ≡ x }
-{
-    x as usize
-}
-
 // The slot that stands at a place of the row.
 pub fn slot_at(row: &[u32], i: usize) -> usize
     requires { i < length row.now }
     ensures { result ≡ get_or row.now i 0 }
 {
-    wide(row[i])
+    row[i] as usize
 }

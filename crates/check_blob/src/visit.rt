@@ -6,42 +6,46 @@ ghost use Rattle.meaning.specs.Bytes.{block, recorded};
 ghost use Rattle.meaning.specs.Walk.{block_check, is_root, link_check, one_visit};
 ghost use Rattle.check_blob.specs.visit.{Sized, Within, met, marked};
 
-use base_bytes::number;
-use base_slot::{record, slot};
-use meaning::{Checked, Edition, Role};
+use base_slot::{fields, record, slot};
+use meaning::{Edition, Reason, Refusal, Role};
 
 // Check 1 of a slot that is visited in that role.
-pub fn check_link(records: &[u8], seen: &[u8], n: usize, role: Role, slot: usize) -> Checked
+pub fn check_link(
+    records: &[u8],
+    seen: &[u8],
+    n: usize,
+    role: Role,
+    slot: usize,
+) -> Result<(), Refusal>
     requires { (length records.now ≡ 12 * n) × (length seen.now ≡ n) }
     ensures { result ≡ link_check n records.now seen.now role slot }
 {
     let Role::Child(parent) = role else {
-        return Checked::Passed;
+        return Ok(());
     };
-    let misplaced = meaning::refuse_at(8, parent);
+    let misplaced = meaning::refuse_at(Reason::WrongShape, parent);
     if n <= slot {
-        return Checked::Faulty(misplaced);
+        return Err(misplaced);
     }
     let state = record::state_of(slot::record_of(records, slot));
     if state == 2 {
-        return Checked::Faulty(misplaced);
+        return Err(misplaced);
     }
     if seen[slot] != 0 {
-        return Checked::Faulty(misplaced);
+        return Err(misplaced);
     }
     if state != 1 {
-        return Checked::Faulty(meaning::refuse_at(9, slot));
+        return Err(meaning::refuse_at(Reason::Reintroduced, slot));
     }
-    Checked::Passed
+    Ok(())
 }
 
+// Whether a slot is visited as a root.
+#[tactic(auto, unfolding(meaning::specs::Walk::is_root))]
 fn is_root(role: Role) -> bool
     ensures { result ≡ is_root role }
 {
-    match role {
-        Role::Root => true,
-        Role::Child(_) => false,
-    }
+    matches!(role, Role::Root)
 }
 
 // Checks 2 and 3 of a slot.
@@ -53,7 +57,7 @@ fn check_slot(
     root: bool,
     edge: bool,
     slot: usize,
-) -> Checked
+) -> Result<(), Refusal>
     requires proper { Proper e }
     requires size_in_bounds { (e.size * slot + e.size ≤ length pool.now) × (12 * slot + 12 ≤ length records.now) }
     ensures { result ≡ block_check e h root edge (recorded records.now slot) slot (block e pool.now slot) }
@@ -73,18 +77,20 @@ pub fn check_and_mark(
     root: bool,
     edge: bool,
     slot: usize,
-) -> Checked
+) -> Result<(), Refusal>
     requires proper { Proper e }
     requires size_in_bounds { (e.size * slot + e.size ≤ length pool.now) × (12 * slot + 12 ≤ length records.now) }
     requires slot_in_bounds { slot < length seen.old }
     ensures { met result (block e pool.now slot) seen.new ≡ marked e pool.now records.now h root edge seen.old slot }
 {
     let checked = check_slot(e, pool, records, h, root, edge, slot);
-    let Checked::Passed = checked else {
+    // By let .. else, document 01's form where the answer's type stays the same.
+    let Ok(()) = checked else {
         return checked;
     };
+    // The flags are bytes, 0 and 1, and no bools: the definitions mark by `set seen s 1`.
     seen[slot] = 1;
-    Checked::Passed
+    Ok(())
 }
 
 // One visit of a slot, as a block of height h.
@@ -98,14 +104,15 @@ pub fn visit(
     role: Role,
     edge: bool,
     slot: usize,
-) -> Checked
+) -> Result<(), Refusal>
     requires proper { Proper e }
     requires sized { Sized e n pool.now records.now seen.old }
     requires within { Within n role slot }
     ensures { met result (block e pool.now slot) seen.new ≡ one_visit e n pool.now records.now h role edge seen.old slot }
 {
     let link = check_link(records, seen, n, role, slot);
-    let Checked::Passed = link else {
+    // By let .. else, document 01's form where the answer's type stays the same.
+    let Ok(()) = link else {
         return link;
     };
     check_and_mark(e, pool, records, seen, h, is_root(role), edge, slot)
@@ -117,6 +124,5 @@ pub fn child_of(e: Edition, pool: &[u8], slot: usize, i: usize) -> usize
     requires size_in_bounds { (e.size * slot + e.size ≤ length pool.now) × (i < e.fan) }
     ensures { result ≡ number (part (16 + 4 * i) 4 (block e pool.now slot)) }
 {
-    let b = slot::block_of(e, pool, slot);
-    number::u32_at(b, 16 + 4 * i) as usize
+    fields::child_of(slot::block_of(e, pool, slot), i)
 }

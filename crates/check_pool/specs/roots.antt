@@ -1,5 +1,6 @@
 -- The pool check as the code has it: of the blobs that it finds, the named one is noted.
-use Rattle.std.specs.Prelude.{List, [], ◌∷◌, ℕ, eqb}
+use Rattle.std.specs.Prelude.{List, [], ◌∷◌, ℕ, eqb, Bool, Option, Some}
+use Rattle.std.specs.Option.{option_eq}
 use Rattle.meaning.specs.Lists.{pick}
 use Rattle.meaning.specs.Bytes.{state}
 use Rattle.meaning.specs.Tree.{Blob, root_of}
@@ -11,15 +12,19 @@ use Rattle.check_blob.specs.notes.{Noted, map_found, note_blob}
 unfoldable pub kept : (b k : ℕ) → (o : List ℕ) → Noted
 kept b k o = record { bytes = b; leaves = k; row = o }
 
--- the blob with that root is noted, any other leaves things as they were
-unfoldable pub note_if_named : (named : ℕ) → Noted → Blob → Noted
-note_if_named named x b = pick (eqb (root_of b) named) (note_blob x.row b) x
+-- whether slot i is the named root: with none named, no slot is
+unfoldable pub is_named : (named : Option ℕ) → (i : ℕ) → Bool
+is_named named i = option_eq eqb named (Some i)
 
-unfoldable pub note_named : (named : ℕ) → Noted → List Blob → Noted
+-- the blob with the named root is noted, any other leaves things as they were
+unfoldable pub note_if_named : (named : Option ℕ) → Noted → Blob → Noted
+note_if_named named x b = pick (is_named named (root_of b)) (note_blob x.row b) x
+
+unfoldable pub note_named : (named : Option ℕ) → Noted → List Blob → Noted
 note_named named x [] = x
 note_named named x (b ∷ bs) = note_named named (note_if_named named x b) bs
 
-module _ (e : Edition) (N : ℕ) (P R : List ℕ) (named : ℕ) where
+module _ (e : Edition) (N : ℕ) (P R : List ℕ) (named : Option ℕ) where
   -- the walk from slot i, if it is a root
   unfoldable pub root_step : (i : ℕ) → Noted → (seen : List ℕ) → Found Noted
   root_step i x seen =

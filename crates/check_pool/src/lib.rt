@@ -10,10 +10,9 @@ ghost use Rattle.check_blob.specs.visit.{Sized};
 ghost use Rattle.check_blob.specs.notes.{met};
 ghost use Rattle.check_pool.specs.roots.{pool_noted};
 
-use check_blob::notes::Walked;
-use meaning::{Checked, Edition};
+use meaning::{Edition, Refusal};
 
-// The pool check. Of the named root's blob it answers the bytes and the leaves, whose slots it notes in the row.
+// The pool check. Of the named root's blob, if one is named, it answers the bytes and the leaves, whose slots it notes in the row.
 pub fn check(
     e: Edition,
     pool: &[u8],
@@ -21,19 +20,18 @@ pub fn check(
     seen: &mut [u8],
     row: &mut [u32],
     n: usize,
-    named: usize,
-) -> Walked
+    named: Option<usize>,
+) -> Result<(u64, usize), Refusal>
     requires proper { Proper e }
     requires sized { Sized e n pool.now records.now seen.old }
     requires n_le_most { (n ≤ e.most) × (seen.old ≡ replicate n 0) }
     ensures { met result seen.new row.new ≡ pool_noted e n pool.now records.now named row.old }
 {
     let walked = roots::walk_roots(e, pool, records, seen, row, n, named);
-    let Walked::Fine(b, k) = walked else {
+    // By let .. else, document 01's form where the answer's type stays the same.
+    let Ok((b, k)) = walked else {
         return walked;
     };
-    match closing::close(e, pool, records, seen, n) {
-        Checked::Faulty(r) => Walked::Fault(r),
-        Checked::Passed => Walked::Fine(b, k),
-    }
+    closing::close(e, pool, records, seen, n)?;
+    Ok((b, k))
 }

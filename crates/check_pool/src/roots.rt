@@ -7,11 +7,10 @@ ghost use Rattle.check_blob.specs.notes.{met};
 ghost use Rattle.check_pool.specs.roots.{kept, root_step, roots_noted};
 
 use base_slot::{record, slot};
-use check_blob::notes::Walked;
 use check_blob::walk;
-use meaning::Edition;
+use meaning::{Edition, Refusal};
 
-// The walk from slot i, if it is a root. Of the named root's blob the leaves are noted; bytes and leaves are those noted so far.
+// The walk from slot i, if it is a root. Of the named root's blob, if one is named, the leaves are noted; bytes and leaves are those noted so far.
 fn walk_slot(
     e: Edition,
     pool: &[u8],
@@ -19,11 +18,11 @@ fn walk_slot(
     seen: &mut [u8],
     row: &mut [u32],
     n: usize,
-    named: usize,
+    named: Option<usize>,
     i: usize,
     bytes: u64,
     leaves: usize,
-) -> Walked
+) -> Result<(u64, usize), Refusal>
     requires proper { Proper e }
     requires sized { Sized e n pool.now records.now seen.old }
     requires i_lt_n { (i < n) × (n ≤ e.most) }
@@ -31,16 +30,17 @@ fn walk_slot(
 {
     let state = record::state_of(slot::record_of(records, i));
     if state != 2 {
-        return Walked::Fine(bytes, leaves);
+        return Ok((bytes, leaves));
     }
-    if i == named {
+    if named == Some(i) {
         return walk::from_root(e, pool, records, seen, row, n, i);
     }
     let other = walk::from_root(e, pool, records, seen, &mut row[0..0], n, i);
-    let Walked::Fine(_, _) = other else {
+    // By let .. else, document 01's form where the answer's type stays the same.
+    let Ok((_, _)) = other else {
         return other;
     };
-    Walked::Fine(bytes, leaves)
+    Ok((bytes, leaves))
 }
 
 // The walks from each root record, in rising slot order.
@@ -51,8 +51,8 @@ pub fn walk_roots(
     seen: &mut [u8],
     row: &mut [u32],
     n: usize,
-    named: usize,
-) -> Walked
+    named: Option<usize>,
+) -> Result<(u64, usize), Refusal>
     requires proper { Proper e }
     requires sized { Sized e n pool.now records.now seen.old }
     requires n_le_most { n ≤ e.most }
@@ -60,15 +60,14 @@ pub fn walk_roots(
 {
     let mut bytes: u64 = 0;
     let mut leaves: usize = 0;
-    let mut i = 0;
-    while i < n {
+    for i in 0..n {
         let here = walk_slot(e, pool, records, seen, row, n, named, i, bytes, leaves);
-        let Walked::Fine(b, k) = here else {
+        // By let .. else, document 01's form where the answer's type stays the same.
+        let Ok((b, k)) = here else {
             return here;
         };
         bytes = b;
         leaves = k;
-        i += 1;
     }
-    Walked::Fine(bytes, leaves)
+    Ok((bytes, leaves))
 }

@@ -1,5 +1,6 @@
 -- Refusals 1 and 2 are the refusal of every call that changes one blob; behind them the survey decides, and behind that the blob is known.
 -- The rows are lent up to place n only: what stands there after the survey is what the survey put there.
+use Rattle.std.specs.Prelude.{Err, Ok, Result}
 use mathlib.Core.Path.{◌≡◌, refl, ap, ◌∙◌, sym}
 use mathlib.Core.List.{List, ◌++◌}
 use Prim.Native.Nat.{ℕ, ◌-◌, ◌≤◌}
@@ -8,22 +9,17 @@ use borrow.Rule.Slice.PartMut.{put_mid}
 use borrow.Table.Elements.{take-le}
 use lib.ListN.{length, take, drop}
 use lib.Seq.{take_at}
+use Rattle.check_blob.specs.notes.{Walked}
 use Rattle.meaning.specs.Tree.{Blob}
 use Rattle.meaning.specs.Calls.{Outcome, refused, changing, slots_in, opened, after}
-use Rattle.meaning.specs.Answers.{change_answer, Ends}
+use Rattle.meaning.specs.Answers.{answer_of, Ends}
 use Rattle.meaning.specs.declared.Edition.{Edition}
 use Rattle.meaning.specs.declared.Refusal.{Refusal}
-use Rattle.meaning.specs.declared.Changed.TheVariants as ChangedCase
-use Rattle.check_gate.specs.Gate.{gate}
-use Rattle.check_gate.specs.declared.Opened.{Opened}
-use Rattle.check_gate.specs.declared.Opened.TheVariants.{Slots, Refused}
+use Rattle.check_gate.specs.Gate.{gate, Opened}
 use Rattle.check_gate.proofs.BehindTheGate.{gate_slots, gate_whole, gate_behind, gate_barred}
-use Rattle.check_blob.specs.declared.notes.Walked.{Walked}
-use Rattle.check_blob.specs.declared.notes.Walked.TheVariants.{Fault, Fine}
 use Rattle.check_blob.proofs.Lending.{row_reaches, row_lent, flags_reach, flags_lent}
 use Rattle.check_survey.specs.sites.Known.{Known}
 use Rattle.check_survey.specs.declared.Reached.{Reached}
-use Rattle.check_survey.specs.declared.Reached.TheVariants as reached
 use Rattle.check_survey.specs.chart.{Room, Rooted}
 use Rattle.check_survey.specs.Reached.{Rows, front, Behind, Reaches}
 
@@ -36,11 +32,11 @@ front_put n l ys h = let z : n - 0 ≡ n = omega arith in ap (λ (j : ℕ). take
 
 -- refusals 1 and 2 and what is behind them
 module _ (e : Edition) (P R : List ℕ) (x : Opened) (ex : x ≡ gate e P R) (r : ℕ) where
-  pub reach_barred : (q : Refusal) → x ≡ Refused q → (row hs fs : List ℕ) → Reaches e P R r (reached.Refused q) row hs fs
+  pub reach_barred : (q : Refusal) → x ≡ Err q → (row hs fs : List ℕ) → Reaches e P R r (Err q) row hs fs
   unfolding Reaches
   reach_barred q eq row hs fs = λ f. gate_barred e P R x ex q eq (changing e (slots_in e P) P R r f)
 
-  module _ (n : ℕ) (en : x ≡ Slots n) where
+  module _ (n : ℕ) (en : x ≡ Ok n) where
     -- the rows' first places are lent
     module _ (seen row hs fs : List ℕ) (g : Rows e P seen row hs fs) where
       pub reach_room : Room e n P R (front n seen) (front n row) (front n hs) (front n fs)
@@ -66,14 +62,14 @@ module _ (e : Edition) (P R : List ℕ) (x : Opened) (ex : x ≡ gate e P R) (r 
       firsts_reach = row_reaches e P R x ex n en fs g.begins
 
     module _ (w : Walked) (row₁ hs₁ fs₁ : List ℕ) (s : Rooted e n P R r w row₁ hs₁ fs₁) where
-      pub reach_fault : (q : Refusal) → w ≡ Fault q → (row hs fs : List ℕ) → Reaches e P R r (reached.Refused q) row hs fs
+      pub reach_fault : (q : Refusal) → w ≡ Err q → (row hs fs : List ℕ) → Reaches e P R r (Err q) row hs fs
       unfolding Reaches Rooted
       reach_fault q eq row hs fs =
           let u : (f : Blob → Outcome (Unit {0})) → changing e n P R r f ≡ refused q = rw eq at s in
           λ f. gate_behind e P R x ex n en (λ m. changing e m P R r f) ∙ u f
 
-      pub reach_blob : (len k : ℕ) → w ≡ Fine len k → (seen row hs fs : List ℕ) → Rows e P seen row hs fs → length row₁ ≡ length (front n row)
-          → Reaches e P R r (reached.Blob n len k) (put_mid 0 (n - 0) row row₁) (put_mid 0 (n - 0) hs hs₁) (put_mid 0 (n - 0) fs fs₁)
+      pub reach_blob : (len k : ℕ) → w ≡ Ok (len, k) → (seen row hs fs : List ℕ) → Rows e P seen row hs fs → length row₁ ≡ length (front n row)
+          → Reaches e P R r (Ok (record { slots = n; bytes = len; leaves = k })) (put_mid 0 (n - 0) row row₁) (put_mid 0 (n - 0) hs hs₁) (put_mid 0 (n - 0) fs fs₁)
       unfolding Reaches Rooted
       reach_blob len k ek seen row hs fs rows lr =
           let g : Known e n P R r len k row₁ hs₁ fs₁ = rw ek at s in
@@ -84,31 +80,31 @@ module _ (e : Edition) (P R : List ℕ) (x : Opened) (ex : x ≡ gate e P R) (r 
           }
 
 -- what the callers learn
-module _ (e : Edition) (P R : List ℕ) (r : ℕ) (y : Reached) (row hs fs : List ℕ) (h : Reaches e P R r y row hs fs) where
+module _ (e : Edition) (P R : List ℕ) (r : ℕ) (y : Result Reached Refusal) (row hs fs : List ℕ) (h : Reaches e P R r y row hs fs) where
   -- a refusal, of any call, with nothing changed
-  pub refused_so : (q : Refusal) → y ≡ reached.Refused q → (f : Blob → Outcome (Unit {0}))
-      → Ends e change_answer (opened e P R (changing e (slots_in e P) P R r f)) P R (ChangedCase.Refused q) P R
-  unfolding Reaches change_answer after
+  pub refused_so : (q : Refusal) → y ≡ Err q → (f : Blob → Outcome (Unit {0}))
+      → Ends e answer_of (opened e P R (changing e (slots_in e P) P R r f)) P R (Err q) P R
+  unfolding Reaches answer_of after
   refused_so q eq f =
       let u : (g : Blob → Outcome (Unit {0})) → opened e P R (changing e (slots_in e P) P R r g) ≡ refused q = rw eq at h in
       record { answer = rw (u f); pool = rw (u f); records = rw (u f) }
 
   -- or the blob
-  module _ (n len k : ℕ) (ey : y ≡ reached.Blob n len k) where
-    pub reached_blob : Behind e P R r n len k row hs fs
+  module _ (b : Reached) (ey : y ≡ Ok b) where
+    pub reached_blob : Behind e P R r b.slots b.bytes b.leaves row hs fs
     unfolding Reaches
     reached_blob = rw ey at h
 
     -- whose blocks are noted in the rows' first places
-    pub noted_heights : n ≤ length hs
-    noted_heights = front_within n hs reached_blob.known.heights
+    pub noted_heights : b.slots ≤ length hs
+    noted_heights = front_within b.slots hs reached_blob.known.heights
 
-    pub noted_firsts : n ≤ length fs
-    noted_firsts = front_within n fs reached_blob.known.firsts
+    pub noted_firsts : b.slots ≤ length fs
+    noted_firsts = front_within b.slots fs reached_blob.known.firsts
 
-    pub noted_row : (seen row₀ hs₀ fs₀ : List ℕ) → Rows e P seen row₀ hs₀ fs₀ → length row ≡ length row₀ → n ≤ length row
-    noted_row seen row₀ hs₀ fs₀ g l = omega (arith, l, g.rows, gate_slots e P R (gate e P R) refl n reached_blob.gated)
+    pub noted_row : (seen row₀ hs₀ fs₀ : List ℕ) → Rows e P seen row₀ hs₀ fs₀ → length row ≡ length row₀ → b.slots ≤ length row
+    noted_row seen row₀ hs₀ fs₀ g l = omega (arith, l, g.rows, gate_slots e P R (gate e P R) refl b.slots reached_blob.gated)
 
     -- where the call is what it is behind refusals 1 and 2
-    pub reached_opened : {A : Type 0} (f : ℕ → Outcome A) → opened e P R (f (slots_in e P)) ≡ f n
-    reached_opened f = gate_behind e P R (gate e P R) refl n reached_blob.gated f
+    pub reached_opened : {A : Type 0} (f : ℕ → Outcome A) → opened e P R (f (slots_in e P)) ≡ f b.slots
+    reached_opened f = gate_behind e P R (gate e P R) refl b.slots reached_blob.gated f

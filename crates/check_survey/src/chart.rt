@@ -3,8 +3,7 @@ ghost use Rattle.meaning.specs.Edition.{Proper};
 ghost use Rattle.check_survey.specs.chart.{Room, Rooted};
 
 use crate::sites;
-use check_blob::notes::Walked;
-use meaning::Edition;
+use meaning::{Edition, Reason, Refusal};
 
 // Refusal 3, then the pool check and the notes, in rows of n places.
 pub fn survey_root(
@@ -17,17 +16,18 @@ pub fn survey_root(
     firsts: &mut [u32],
     n: usize,
     root: u64,
-) -> Walked
+) -> Result<(u64, usize), Refusal>
     requires proper { Proper e }
     requires room { Room e n pool.now records.now seen.old row.old heights.old firsts.old }
     ensures { Rooted e n pool.now records.now root result row.new heights.new firsts.new }
 {
     if !check_gate::is_root(records, n, root) {
-        return Walked::Fault(meaning::refuse_nowhere(3));
+        return Err(meaning::refuse_nowhere(Reason::NotARoot));
     }
     let at = root as usize;
-    let walked = check_pool::check(e, pool, records, seen, row, n, at);
-    let Walked::Fine(_, _) = walked else {
+    let walked = check_pool::check(e, pool, records, seen, row, n, Some(at));
+    // By let .. else, document 01's form where the answer's type stays the same.
+    let Ok((_, _)) = walked else {
         return walked;
     };
     sites::note_sites(e, pool, heights, firsts, n, at);

@@ -10,15 +10,14 @@ pub mod worn;
 ghost use Rattle.meaning.specs.Edition.{Proper};
 ghost use Rattle.check_survey.specs.Reached.{Rows, Reaches};
 
-use check_blob::notes::Walked;
-use check_gate::Opened;
 use meaning::{Edition, Refusal};
 
-// A refusal; or the blob: the number of slots, the blob's bytes and its leaves.
+// The blob that a call reaches: the pool's slots, and the blob's bytes and leaves.
 #[derive(Clone, Copy, Drop)]
-pub enum Reached {
-    Refused(Refusal),
-    Blob(usize, u64, usize),
+pub struct Reached {
+    pub slots: usize,
+    pub bytes: u64,
+    pub leaves: usize,
 }
 
 // Refusals 1 and 2, then what is behind them, in the rows' first n places.
@@ -31,29 +30,26 @@ pub fn reach(
     heights: &mut [u8],
     firsts: &mut [u32],
     root: u64,
-) -> Reached
+) -> Result<Reached, Refusal>
     requires proper { Proper e }
     requires rows { Rows e pool.now seen.old row.old heights.old firsts.old }
     ensures { Reaches e pool.now records.now root result row.new heights.new firsts.new }
 {
-    match check_gate::open(e, pool, records) {
-        Opened::Refused(r) => Reached::Refused(r),
-        Opened::Slots(n) => {
-            let walked = chart::survey_root(
-                e,
-                pool,
-                records,
-                &mut seen[0..n],
-                &mut row[0..n],
-                &mut heights[0..n],
-                &mut firsts[0..n],
-                n,
-                root,
-            );
-            match walked {
-                Walked::Fault(r) => Reached::Refused(r),
-                Walked::Fine(bytes, leaves) => Reached::Blob(n, bytes, leaves),
-            }
-        }
-    }
+    let slots = check_gate::open(e, pool, records)?;
+    let (bytes, leaves) = chart::survey_root(
+        e,
+        pool,
+        records,
+        &mut seen[0..slots],
+        &mut row[0..slots],
+        &mut heights[0..slots],
+        &mut firsts[0..slots],
+        slots,
+        root,
+    )?;
+    Ok(Reached {
+        slots,
+        bytes,
+        leaves,
+    })
 }

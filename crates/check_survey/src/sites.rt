@@ -13,7 +13,8 @@ use base_slot::{fields, slot};
 use check_blob::visit;
 use meaning::Edition;
 
-// Notes a root of height h and all below it: the root, which stands in no row, and then its row.
+// Notes a root of height h and all below it: the root, which stands in no row, and then its row. A function of its own: with a second caller the compiler
+// calls `note_block` for each leaf, and a write of one byte took a seventh more.
 fn note_root(
     e: Edition,
     pool: &[u8],
@@ -79,13 +80,9 @@ fn note_row(
     ensures value { result ≡ leaves + row_leaves e pool.now w (fours count (drop 16 (block e pool.now parent))) }
 {
     let mut k = leaves;
-    let mut from = 0;
-    let mut left = count;
-    while left != 0 {
+    for from in 0..count {
         let child = visit::child_of(e, pool, parent, from);
         k = note_block(e, pool, heights, firsts, n, w, child, k);
-        from += 1;
-        left -= 1;
     }
     k
 }

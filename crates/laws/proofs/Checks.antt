@@ -1,20 +1,21 @@
 -- The checks of one block and of one record: an equation for each way out of a check, in the words that its code has at that place.
+use Rattle.std.specs.Prelude.{Option, Some, None, Ok, Err}
 use mathlib.Core.Path.{◌≡◌, refl, ap, ◌∙◌, sym}
 use mathlib.Core.Bool.{Bool, true, false, not}
 use mathlib.Core.List.{List, [], ◌∷◌}
 use Prim.Native.Nat.{ℕ, zero, suc, ◌+◌, ◌-◌, ◌*◌, ◌≤◌, ◌<◌}
 use native.Mathlib.Omega.{arith}
-use borrow.Author.Tests.{eq-eqb, ne_eqb, le-leb, lt-leb, lt-ltb, le-ltb, not-true, not-false}
-use lib.Dec.{leb}
+use borrow.Author.Tests.{eq-eqb, ne_eqb, le-leb, lt-leb, lt-ltb, le-ltb}
 use lib.ListN.{length, get_or, take, drop}
+use Rattle.meaning.specs.declared.Reason.TheVariants.{Spoiled, Moved, RolledBack, Ahead, WrongShape}
+use Rattle.meaning.specs.declared.Reason.{Reason}
 use Rattle.meaning.specs.declared.Edition.{Edition}
 use Rattle.meaning.specs.declared.Refusal.{Refusal}
-use Rattle.meaning.specs.declared.Checked.TheVariants.{Passed, Faulty}
 use Rattle.meaning.specs.Lists.{pick, both, part, number, same_list, zeros}
 use Rattle.meaning.specs.Edition.{Proper}
-use Rattle.meaning.specs.Bytes.{height_of, count_of, own_slot, version_of, state_of, recorded_of, sound_record}
+use Rattle.meaning.specs.Bytes.{height_of, count_of, own_slot, version_of}
 use Rattle.meaning.specs.Shape.{least_count, most_count}
-use Rattle.meaning.specs.Refusals.{at, must}
+use Rattle.meaning.specs.Refusals.{at, must, unless}
 use Rattle.laws.proofs.Numbers.{part_front}
 use Rattle.meaning.specs.Walk.{flaw, used, formed, block_check}
 
@@ -31,27 +32,27 @@ module _ (e : Edition) (p : Proper e) (b : List ℕ) (v s : ℕ) (m : Bool)
   mark_is : same_list (take 2 b) e.mark ≡ m
   mark_is = sym (em ∙ ap (λ (l : List ℕ). same_list (take 2 b) l) (two_bytes e.mark p.marked))
 
-  pub flaw_mark : not m ≡ true → 4 ≡ flaw e v s b
+  pub flaw_mark : not m ≡ true → Some Spoiled ≡ flaw e v s b
   unfolding flaw pick
   flaw_mark t = simp (mark_is, t)
 
   module _ (t : not m ≡ false) (o : ℕ) (eo : o ≡ number (part 4 4 b)) where
-    pub flaw_own : (o ≡ s → ⊥) → 5 ≡ flaw e v s b
+    pub flaw_own : (o ≡ s → ⊥) → Some Moved ≡ flaw e v s b
     unfolding flaw pick own_slot
     flaw_own n = simp (mark_is, t, ← eo, ne_eqb o s n)
 
     module _ (q : o ≡ s) (w : ℕ) (ew : w ≡ number (part 8 8 b)) where
-      pub flaw_old : w < v → 6 ≡ flaw e v s b
+      pub flaw_old : w < v → Some RolledBack ≡ flaw e v s b
       unfolding flaw pick own_slot version_of
       flaw_old l = simp (mark_is, t, ← eo, eq-eqb o s q, ← ew, lt-ltb w v l)
 
-      pub flaw_new : v < w → 7 ≡ flaw e v s b
+      pub flaw_new : v < w → Some Ahead ≡ flaw e v s b
       unfolding flaw pick own_slot version_of
       flaw_new l =
           let k : v ≤ w = omega arith in
           simp (mark_is, t, ← eo, eq-eqb o s q, ← ew, le-ltb w v k, lt-ltb v w l)
 
-      pub flaw_none : v ≤ w → w ≤ v → 0 ≡ flaw e v s b
+      pub flaw_none : v ≤ w → w ≤ v → None ≡ flaw e v s b
       unfolding flaw pick own_slot version_of
       flaw_none l k = simp (mark_is, t, ← eo, eq-eqb o s q, ← ew, le-ltb w v l, le-ltb v w k)
 
@@ -149,43 +150,17 @@ module _ (e : Edition) (b : List ℕ) (h : ℕ) (root edge : Bool) (f : ℕ) (ef
             ∙ part_front (16 + u) (16 + e.leaf - (16 + u)) b (omega (arith, p.fits)) in
             simp (← ef, eq-eqb f h q, ← ec, ← el, le-leb l c k, ← em, le-leb c m n, ← eu, t, ← ez)
 
--- checks 2 and 3
-module _ (e : Edition) (h : ℕ) (root edge : Bool) (v s : ℕ) (b : List ℕ) (n : ℕ) (en : n ≡ flaw e v s b) where
-  pub check_flaw : (n ≡ 0 → ⊥) → (r : Refusal) → r ≡ at n s → Faulty r ≡ block_check e h root edge v s b
-  unfolding block_check must
-  check_flaw z r er = simp (← en, ne_eqb n 0 z, er)
+-- checks 2 and 3: x is what check 2 finds
+module _ (e : Edition) (h : ℕ) (root edge : Bool) (v s : ℕ) (b : List ℕ) (x : Option Reason) (ex : x ≡ flaw e v s b) where
+  pub check_flaw : (why : Reason) → x ≡ Some why → (r : Refusal) → r ≡ at why s → Err r ≡ block_check e h root edge v s b
+  unfolding block_check unless
+  check_flaw why z r er = rw (← ex, z, er)
 
-  module _ (z : n ≡ 0) (f : Bool) (ef : f ≡ formed e h root edge b) where
-    pub check_passed : f ≡ true → Passed ≡ block_check e h root edge v s b
-    unfolding block_check must
-    check_passed t = simp (← en, eq-eqb n 0 z, ← ef, t)
+  module _ (z : x ≡ None) (f : Bool) (ef : f ≡ formed e h root edge b) where
+    pub check_passed : f ≡ true → Ok tt ≡ block_check e h root edge v s b
+    unfolding block_check unless must
+    check_passed t = rw (← ex, z, ← ef, t)
 
-    pub check_shape : f ≡ false → (r : Refusal) → r ≡ at 8 s → Faulty r ≡ block_check e h root edge v s b
-    unfolding block_check must
-    check_shape t r er = simp (← en, eq-eqb n 0 z, ← ef, t, er)
-
--- the check of one record, as far as the code has come: m says whether the mark is right, st is the state
-module _ (r : List ℕ) (m : Bool) (em : m ≡ same_list (take 2 r) (0x52 ∷ 0x31 ∷ [])) where
-  pub sound_mark : not m ≡ true → false ≡ sound_record r
-  unfolding sound_record both
-  sound_mark t = simp (← em, not-true m t)
-
-  module _ (t : not m ≡ false) (st : ℕ) (es : st ≡ state_of r) where
-    pub sound_state : 2 < st → false ≡ sound_record r
-    unfolding sound_record both
-    sound_state n = simp (← em, not-false m t, ← es, lt-leb st 2 n)
-
-    module _ (k : st ≤ 2) where
-      pub sound_fourth : (get_or r 3 0 ≡ 0 → ⊥) → false ≡ sound_record r
-      unfolding sound_record both
-      sound_fourth n = simp (← em, not-false m t, ← es, le-leb st 2 k, ne_eqb (get_or r 3 0) 0 n)
-
-      module _ (z : get_or r 3 0 ≡ 0) where
-        pub sound_free : st ≡ 0 → true ≡ sound_record r
-        unfolding sound_record both pick
-        sound_free f = simp (← em, not-false m t, ← es, le-leb st 2 k, eq-eqb (get_or r 3 0) 0 z, eq-eqb st 0 f)
-
-        pub sound_live : (st ≡ 0 → ⊥) → (v : ℕ) → v ≡ recorded_of r → leb 1 v ≡ sound_record r
-        unfolding sound_record both pick
-        sound_live f v ev =
-            simp (← em, not-false m t, ← es, le-leb st 2 k, eq-eqb (get_or r 3 0) 0 z, ne_eqb st 0 f, ← ev)
+    pub check_shape : f ≡ false → (r : Refusal) → r ≡ at WrongShape s → Err r ≡ block_check e h root edge v s b
+    unfolding block_check unless must
+    check_shape t r er = rw (← ex, z, ← ef, t, er)

@@ -1,6 +1,8 @@
 -- Bytes and back. A written block is a header of sixteen bytes, the row's bytes and zeros: each field is read from where it was
 -- written, so the block passes checks 2 and 3 and gives its cell. The other way round, those two checks leave no byte open: where
 -- header and payload fill a block, one that passes is the written block of the cell that it gives. Records likewise.
+use Rattle.std.specs.Prelude.{Some, Ok}
+use Rattle.meaning.specs.declared.Reason.TheVariants.{Spoiled}
 use mathlib.Core.Path.{◌≡◌, refl, ap, ap₂, ◌∙◌, sym}
 use mathlib.Core.Bool.{Bool, true}
 use mathlib.Core.List.{List, [], ◌∷◌, ◌++◌, map, append_assoc}
@@ -9,7 +11,6 @@ use native.Mathlib.Omega.{arith}
 use lib.ListN.{length, get_or, take, drop, replicate, length-append, length-take, length-drop, length-replicate, take-append-drop, get_or-replicate}
 use lib.Seq.{take_all, take_at, drop_at, take-add, drop-drop, drop-cons, take-append-add, take-append_seam, length-take-le, get_or-take, get_or-drop}
 use Rattle.meaning.specs.declared.Edition.{Edition}
-use Rattle.meaning.specs.declared.Checked.TheVariants.{Passed}
 use Rattle.meaning.specs.Lists.{pick, part, joined, number, bytes, padded, fours, zeros, same_list}
 use Rattle.meaning.specs.Edition.{Proper}
 use Rattle.meaning.specs.Bytes.{Cell, item_bytes, header, block_bytes, encoded, height_of, count_of, own_slot, version_of, data_of, children_of}
@@ -208,7 +209,7 @@ module _ (e : Edition) (p : Proper e) (c : Cell) (s v : ℕ) (fits : length (ite
 -- a written block passes checks 2 and 3
 pub written_passes : (e : Edition) → Proper e → (c : Cell) (h : ℕ) (root edge : Bool) (v s : ℕ) → c.height ≡ h
     → least_count e h edge root ≤ length c.items → length c.items ≤ most_count e h → s < 2 ^ 32 → v < 2 ^ 64
-    → block_check e h root edge v s (encoded e c s v) ≡ Passed
+    → block_check e h root edge v s (encoded e c s v) ≡ Ok tt
 written_passes e p c h root edge v s eh lo hi hs hv =
     let fits : length (item_bytes c.height c.items) ≤ e.leaf = rw (item_length c.height c.items, eh) (used_fits e p h (length c.items) hi) in
     let n = count_read e p c s v fits in
@@ -279,7 +280,7 @@ module _ (b : List ℕ) where
 
 -- where header and payload fill a block, one of bytes that passes checks 2 and 3 is the written block of its cell
 pub passed_encoded : (e : Edition) → Proper e → e.size ≡ 16 + e.leaf → (h : ℕ) (root edge : Bool) (v s : ℕ) (b : List ℕ) → length b ≡ e.size
-    → ((i : ℕ) → get_or b i 0 < 256) → block_check e h root edge v s b ≡ Passed → b ≡ encoded e (cell_of h b) s v
+    → ((i : ℕ) → get_or b i 0 < 256) → block_check e h root edge v s b ≡ Ok tt → b ≡ encoded e (cell_of h b) s v
 unfolding cell_of header height_of count_of own_slot version_of part
 passed_encoded e p whole h root edge v s b long small passed =
     let f = passed_sound e h root edge v s b passed in
@@ -301,7 +302,7 @@ passed_encoded e p whole h root edge v s b long small passed =
     sym (take-append-drop 16 b) ∙ ap₂ ◌++◌ front after ∙ sym (encoded_bytes e p (cell_of h b) s v (omega arith))
 
 -- a block of zeros has another mark than any edition's
-pub blank_flaw : (e : Edition) → Proper e → (v s : ℕ) → flaw e v s (replicate e.size 0) ≡ 4
+pub blank_flaw : (e : Edition) → Proper e → (v s : ℕ) → flaw e v s (replicate e.size 0) ≡ Some Spoiled
 unfolding flaw pick
 blank_flaw e p v s =
     let b : List ℕ = replicate e.size 0 in

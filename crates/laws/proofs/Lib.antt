@@ -6,6 +6,7 @@ pub mod Heights
 pub mod Levels
 pub mod Shapes
 pub mod Checks
+pub mod HandedOn
 pub mod Inversions
 pub mod Every
 pub mod Ranges

@@ -1,5 +1,6 @@
 -- How many slots a walk visits. Each child that it goes to had no flag, and gets one: so the flags that are set grow by one for each block
 -- of the tree. The flags are as many as the pool has slots, so a blob has no more blocks than that, and no more leaves.
+use Rattle.std.specs.Prelude.{Ok}
 use mathlib.Core.Path.{◌≡◌, refl, ap, ◌∙◌}
 use mathlib.Core.Bool.{Bool, true}
 use mathlib.Core.List.{List, [], ◌∷◌, map}
@@ -9,7 +10,6 @@ use lib.ListN.{length, get_or, set, length-append, length-set}
 use Rattle.meaning.specs.declared.Edition.{Edition}
 use Rattle.meaning.specs.declared.Role.{Role}
 use Rattle.meaning.specs.declared.Role.TheVariants.{Root, Child}
-use Rattle.meaning.specs.declared.Checked.TheVariants.{Passed}
 use Rattle.meaning.specs.Lists.{both, joined}
 use Rattle.meaning.specs.Edition.{Proper}
 use Rattle.meaning.specs.Bytes.{block, height_of, children_of}
@@ -62,12 +62,12 @@ marks_all (suc x ∷ l) = omega (arith, marks_all l)
 module _ (e : Edition) (N : ℕ) (P R : List ℕ) where
   -- a visit that went well passed check 1
   pub visit_link : (h : ℕ) (role : Role) (edge : Bool) (seen : List ℕ) (s : ℕ) {t : Tree h} {seen' : List ℕ}
-      → visit e N P R h role edge seen s ≡ fine t seen' → link_check N R seen role s ≡ Passed
+      → visit e N P R h role edge seen s ≡ fine t seen' → link_check N R seen role s ≡ Ok tt
   visit_link zero role edge seen s v = (leaf_found e N P R role edge seen s v).link
   visit_link (suc h) role edge seen s v = (inner_found e N P R h role edge seen s v).link
 
   -- a child that passes check 1 had no flag, so that its own is one more
-  fresh : (q : ℕ) (seen : List ℕ) (s m c : ℕ) → link_check N R seen (Child q) s ≡ Passed → length seen ≡ N
+  fresh : (q : ℕ) (seen : List ℕ) (s m c : ℕ) → link_check N R seen (Child q) s ≡ Ok tt → length seen ≡ N
       → suc m ≡ marks (set seen s 1) + c → m ≡ marks seen + c
   fresh q seen s m c link all sum =
       let l = passed_linked N R seen q s link in

@@ -1,6 +1,6 @@
 -- Parts of lists, and little-endian numbers: a number over a list is one over its front plus, shifted, one over the rest,
--- and a number's lowest bytes grow by one more byte at the end. So reading four bytes is reading two and two, and a loop
--- that stores byte after byte writes a number. Where the bytes are below 256 and the number fits, each undoes the other.
+-- and a number's lowest bytes are those of its front, then those of what is left. Where the bytes are below 256 and the
+-- number fits, each undoes the other.
 use mathlib.Core.Path.{◌≡◌, refl, ap, ◌∙◌, sym}
 use mathlib.Core.List.{List, [], ◌∷◌, ◌++◌}
 use Prim.Native.Nat.{ℕ, zero, suc, ◌+◌, ◌-◌, ◌*◌, ◌/◌, ◌%◌, ◌^◌, ◌<◌, ◌≤◌}
@@ -8,7 +8,7 @@ use native.Mathlib.Nat.{mul_comm, mul_assoc, pow-suc, pow-succ', zero-add, one-m
 use native.Mathlib.Numerals.{add-one}
 use native.Mathlib.Omega.{arith}
 use lib.ListN.{length, get_or, take, drop, length-drop}
-use lib.Seq.{take-add, take-suc, take-take, drop_at, drop-drop, drop-cons, get_or-drop, length-take-le}
+use lib.Seq.{take-add, take-take, drop_at, drop-drop, drop-cons, length-take-le}
 use Rattle.meaning.specs.Lists.{part, number, bytes}
 
 -- a part of j + k elements is one of j, then one of k
@@ -35,13 +35,6 @@ part_part at n b k l h f =
     let e : drop b (take n (drop at l)) ≡ take (n - b) (drop b (drop at l)) = ap (λ (z : ℕ). drop b (take z (drop at l))) (sym m) ∙ part_front b (n - b) (drop at l) s in
     ap (take k) e ∙ take-take k (n - b) (drop b (drop at l)) (omega arith) ∙ rw drop-drop
 
--- a part of one more is the part, then the next element
-pub part_more : (at k : ℕ) (l : List ℕ) → at + k < length l → part at (k + 1) l ≡ part at k l ++ (get_or l (at + k) 0 ∷ [])
-unfolding part
-part_more at k l h =
-    let n : k < length (drop at l) = rw length-drop (omega arith) in
-    rw (add-one, take-suc (drop at l) k 0 n, get_or-drop)
-
 -- the number over two lists in a row
 pub number_append : (a b : List ℕ) → number (a ++ b) ≡ number a + 256 ^ length a * number b
 unfolding number
@@ -62,11 +55,6 @@ pub number_one : (at : ℕ) (l : List ℕ) → at < length l → number (part at
 unfolding number part
 number_one at l h = rw (drop-cons l at 0 h) (omega arith)
 
--- the number in two bytes
-pub number_two : (at : ℕ) (l : List ℕ) (x y : ℕ) → at + 2 ≤ length l → x ≡ get_or l at 0 → y ≡ get_or l (at + 1) 0 → x + 256 * y ≡ number (part at 2 l)
-number_two at l x y h ex ey =
-    omega (arith, number_split 1 1 at l (omega arith), number_one at l (omega arith), number_one (at + 1) l (omega arith))
-
 -- k lowest bytes are k long
 pub bytes_length : (k n : ℕ) → length (bytes k n) ≡ k
 unfolding bytes
@@ -81,11 +69,6 @@ bytes_split (suc j) k n =
     let m : suc j + k ≡ suc (j + k) = omega arith in
     let d : n / 256 ^ suc j ≡ n / 256 / 256 ^ j = rw (pow-succ', div-div-eq-div-mul) in
     rw (m, d, bytes_split j k (n / 256))
-
--- one byte more
-pub bytes_more : (k n : ℕ) → bytes (k + 1) n ≡ bytes k n ++ (n / 256 ^ k % 256 ∷ [])
-unfolding bytes
-bytes_more k n = bytes_split k 1 n
 
 -- what is left of a number, one byte further
 pub rest_more : (k n rest : ℕ) → rest ≡ n / 256 ^ k → rest / 256 ≡ n / 256 ^ (k + 1)

@@ -1,6 +1,7 @@
 -- What a walk that went well found. Each block that it visited passed its checks, so its count lies in the range of its place: the tree
 -- has the shape of a blob, and each of its leaves is what lies in the pool at the leaf's slot. The laws go block by block and row by row,
 -- as the walk does. Of a child check 1 says that its slot is in the pool; of a root the caller says so.
+use Rattle.std.specs.Prelude.{Ok}
 use mathlib.Core.Path.{◌≡◌, refl, ap, ap₂, ◌∙◌, sym, subst}
 use mathlib.Core.Logic.{⊎_elim}
 use mathlib.Core.Bool.{Bool, true, false}
@@ -13,7 +14,6 @@ use lib.ListN.{length, get_or, set, length-map, get_or-map}
 use Rattle.meaning.specs.declared.Edition.{Edition}
 use Rattle.meaning.specs.declared.Role.{Role}
 use Rattle.meaning.specs.declared.Role.TheVariants.{Root, Child}
-use Rattle.meaning.specs.declared.Checked.TheVariants.{Passed}
 use Rattle.meaning.specs.Lists.{both, joined}
 use Rattle.meaning.specs.Edition.{Proper}
 use Rattle.meaning.specs.Bytes.{block, height_of, count_of, data_of, children_of, recorded}
@@ -29,7 +29,7 @@ use Rattle.laws.proofs.Inversions.{never, and_then_turned, and_then_joined, fine
 -- what a leaf's visit that went well found: its bytes
 pub record LeafFound (e : Edition) (N : ℕ) (P R : List ℕ) (role : Role) (edge : Bool) (seen : List ℕ) (s : ℕ) (t : Tree zero)
     (seen' : List ℕ) : Type 0 where
-  pub link : link_check N R seen role s ≡ Passed
+  pub link : link_check N R seen role s ≡ Ok tt
   pub sound : Sound e zero (is_root role) edge (recorded R s) s (block e P s)
   pub tree : (s, data_of (block e P s)) ≡ t
   pub flags : set seen s 1 ≡ seen'
@@ -37,7 +37,7 @@ pub record LeafFound (e : Edition) (N : ℕ) (P R : List ℕ) (role : Role) (edg
 -- what an inner block's visit that went well found: a row of trees
 pub record InnerFound (e : Edition) (N : ℕ) (P R : List ℕ) (h : ℕ) (role : Role) (edge : Bool) (seen : List ℕ) (s : ℕ) (t : Tree (suc h))
     (seen' : List ℕ) : Type 0 where
-  pub link : link_check N R seen role s ≡ Passed
+  pub link : link_check N R seen role s ≡ Ok tt
   pub sound : Sound e (suc h) (is_root role) edge (recorded R s) s (block e P s)
   pub below : List (Tree h)
   pub walked : visit_row e N P R (visit e N P R h) s edge (children_of (block e P s)) (set seen s 1) ≡ fine below seen'
@@ -109,7 +109,7 @@ module _ (e : Edition) (N : ℕ) (P R : List ℕ) where
       (λ t. record { height = min (height_of (block e P r)) e.top; tree = t }) v
 
 -- a slot that was visited is in the pool: a child's by check 1
-pub slot_within : (N : ℕ) (R seen : List ℕ) (role : Role) (s : ℕ) → link_check N R seen role s ≡ Passed → (is_root role ≡ true → s < N) → s < N
+pub slot_within : (N : ℕ) (R seen : List ℕ) (role : Role) (s : ℕ) → link_check N R seen role s ≡ Ok tt → (is_root role ≡ true → s < N) → s < N
 unfolding is_root
 slot_within N R seen Root s link root = root refl
 slot_within N R seen (Child p) s link root = (passed_linked N R seen p s link).within

@@ -13,12 +13,13 @@ use Rattle.meaning.specs.Lists.{pick, both, range, same_list}
 use Rattle.meaning.specs.Edition.{Proper}
 use Rattle.meaning.specs.Bytes.{block, record_at, state, sound_record}
 use Rattle.meaning.specs.Tree.{Blob, slots_of}
-use Rattle.meaning.specs.Refusals.{at}
+use Rattle.meaning.specs.Refusals.{at, number_of}
 use Rattle.meaning.specs.Walk.{fine, blob_check}
 use Rattle.meaning.specs.Calls.{Outcome, refused, refuse_if, after_check, slots_in, refuse_bad_record, opened, rooted, reading}
+use Rattle.meaning.specs.declared.Reason.{Reason}
 use Rattle.laws.proofs.Inversions.{by_test, same_list_lem}
 use Rattle.laws.proofs.Every.{Every, every_right, range_every}
-use Rattle.laws_history.proofs.Local.{unlike, Same, other_flaw, Told, first_other, other_none, other_first, other_number, check_other}
+use Rattle.laws_history.proofs.Local.{unlike, Same, other_why, Told, first_other, other_none, other_first, other_number, check_other}
 use Rattle.laws.proofs.Walked.{slots_in_lem}
 use Rattle.laws_history.proofs.Started.{Sized, so_sized, other_sized}
 
@@ -59,14 +60,14 @@ each_or_first e P P* (x ∷ xs) =
       differs = unlike (block e P* x) (block e P x) t;
     }))
 
--- a call is refused with the number that check 2 gives to the first of these slots that is not as it was, and the refusal names that slot
+-- a call is refused for what check 2 finds wrong with the first of these slots that is not as it was, and the refusal names that slot
 pub record Stopped {A : Type 0} (e : Edition) (P P* R slots : List ℕ) (o : Outcome A) : Type 0 where
   pub first : FirstOther e P P* slots
-  pub number : ℕ
-  pub found : number ≡ other_flaw e P* R first.slot
-  pub low : 4 ≤ number
-  pub high : number ≤ 7
-  pub answer : o ≡ refused (at number first.slot)
+  pub why : Reason
+  pub found : why ≡ other_why e P* R first.slot
+  pub low : 4 ≤ number_of why
+  pub high : number_of why ≤ 7
+  pub answer : o ≡ refused (at why first.slot)
 
 -- a call on a blob, whose outcome is o, has outcome o* on the other pool
 pub record Exact {A : Type 0} (e : Edition) (P P* R : List ℕ) (b : Blob) (o o* : Outcome A) : Type 0 where
@@ -76,7 +77,7 @@ pub record Exact {A : Type 0} (e : Edition) (P P* R : List ℕ) (b : Blob) (o o*
 
 -- behind a check of such a blob
 module _ {A : Type 0} (e : Edition) (P P* R : List ℕ) (b : Blob) (seen : List ℕ) (told : Every (Told e P P* R) (slots_of b)) (k : Blob → Outcome A)
-    (unnamed : (n s : ℕ) → k b ≡ refused (at n s) → ⊥) where
+    (unnamed : (why : Reason) (s : ℕ) → k b ≡ refused (at why s) → ⊥) where
   -- stopped at the first slot that is not as it was
   stopped : FirstOther e P P* (slots_of b) → Stopped e P P* R (slots_of b) (after_check (first_other e P P* R (slots_of b) (fine b seen)) k)
   unfolding after_check
@@ -87,7 +88,7 @@ module _ {A : Type 0} (e : Edition) (P P* R : List ℕ) (b : Blob) (seen : List 
       ∙ other_first e P P* R f.before f.slot f.later _ f.same f.differs in
       record {
         first = f;
-        number = other_flaw e P* R f.slot;
+        why = other_why e P* R f.slot;
         found = refl;
         low = n.0;
         high = n.1;
@@ -100,7 +101,7 @@ module _ {A : Type 0} (e : Edition) (P P* R : List ℕ) (b : Blob) (seen : List 
       record {
         same = λ s. ap (λ f. after_check f k) (other_none e P P* R (slots_of b) (fine b seen) s);
         only = λ q.
-            ⊎_elim (λ all. all) (λ f. let s = stopped f in absurd (unnamed s.number s.first.slot (sym q ∙ s.answer)))
+            ⊎_elim (λ all. all) (λ f. let s = stopped f in absurd (unnamed s.why s.first.slot (sym q ∙ s.answer)))
             (each_or_first e P P* (slots_of b));
         other = λ d. ⊎_elim (λ all. absurd (d all)) stopped (each_or_first e P P* (slots_of b));
       }
@@ -136,7 +137,7 @@ reading_checks e p N P R good sound r within root k = opened_passes e p N P R go
 pub reading_exact : {A : Type 0} (e : Edition) → Proper e → (N : ℕ) (P P* R : List ℕ) → Sized e N P R → length P* ≡ length P
     → ((x : ℕ) → x < N → sound_record (record_at R x) ≡ true) → (r : ℕ) → r < N → state R r ≡ 2
     → (b : Blob) (seen : List ℕ) → blob_check e N P R r ≡ fine b seen → Every (Told e P P* R) (slots_of b)
-    → (k : Blob → Outcome A) → ((n s : ℕ) → k b ≡ refused (at n s) → ⊥)
+    → (k : Blob → Outcome A) → ((why : Reason) (s : ℕ) → k b ≡ refused (at why s) → ⊥)
     → Exact e P P* R b (opened e P R (reading e N P R r k)) (opened e P* R (reading e N P* R r k))
 unfolding after_check
 reading_exact e p N P P* R good size sound r within root b seen found told k unnamed =

@@ -7,6 +7,7 @@ use Prim.Native.Nat.{ℕ, ◌^◌, ◌≤◌, ◌<◌}
 use native.Mathlib.Omega.{arith}
 use borrow.Author.Tests.{ltb-true, not-false}
 use lib.Dec.{ltb, eqb}
+use Rattle.meaning.specs.declared.Reason.TheVariants.{BadRecord, NotARoot}
 use Rattle.meaning.specs.declared.Edition.{Edition}
 use Rattle.meaning.specs.declared.Refusal.{Refusal}
 use Rattle.meaning.specs.Lists.{pick, range, filter, all}
@@ -24,6 +25,7 @@ use Rattle.meaning.specs.Calls.{resize_on, resize_in, delete_on, delete_in}
 use Rattle.meaning.specs.Calls.{length_call, read_call, show_call, audit_call, create_call, write_call, resize_call, delete_call}
 use Rattle.meaning.specs.Run as run
 use Rattle.meaning.specs.Run.{Call, perform}
+use Rattle.meaning.specs.declared.Reason.{Reason}
 use Rattle.laws.proofs.Inversions.{by_test, both_true}
 use Rattle.laws.proofs.Walked.{slots_in_lem}
 use Rattle.laws.proofs.Every.{Every, every_weaker}
@@ -65,7 +67,7 @@ module _ (e : Edition) (N : ℕ) (small : N ≤ 2 ^ 32) (S : Store) (is : Settle
   none_steps a = ((λ x h. same refl refl), record { pools = is.pools; lines = is.lines; sound = is.sound; small = is.small })
 
   -- behind a refusal
-  if_steps : {A : Type 0} (t : Bool) (n : ℕ) (o : Outcome A) → (t ≡ false → Steps o) → Steps (refuse_if t n o)
+  if_steps : {A : Type 0} (t : Bool) (n : Reason) (o : Outcome A) → (t ≡ false → Steps o) → Steps (refuse_if t n o)
   unfolding refuse_if
   if_steps true n o f = refused_steps _ (nowhere n)
   if_steps false n o f = f refl
@@ -75,12 +77,12 @@ module _ (e : Edition) (N : ℕ) (small : N ≤ 2 ^ 32) (S : Store) (is : Settle
   unfolding refuse_bad_record
   record_steps [] o g = g
   record_steps {A} (s ∷ ss) o g =
-      picked (λ (o : Outcome A). Steps o) (sound_record (record_at R s)) _ _ (record_steps ss o g) (refused_steps _ (at 2 s))
+      picked (λ (o : Outcome A). Steps o) (sound_record (record_at R s)) _ _ (record_steps ss o g) (refused_steps _ (at BadRecord s))
 
   -- behind refusals 1 and 2
   opened_steps : {A : Type 0} (o : Outcome A) → Steps o → Steps (opened e P R o)
   unfolding opened
-  opened_steps o g = if_steps _ 1 _ (λ t. record_steps _ o g)
+  opened_steps o g = if_steps _ _ _ (λ t. record_steps _ o g)
 
   -- after a check
   check_steps : {A B : Type 0} (f : Found A) (k : A → Outcome B) → ((a : A) (seen : List ℕ) → f ≡ fine a seen → Steps (k a)) → Steps (after_check f k)
@@ -135,7 +137,7 @@ module _ (e : Edition) (N : ℕ) (small : N ≤ 2 ^ 32) (S : Store) (is : Settle
   with_steps : {A : Type 0} (r : ℕ) (k : Blob → Outcome A) (bs : List Blob) → ((b : Blob) → Every (Live N R) (slots_of b) → Steps (k b))
       → Every (λ b. Every (Live N R) (slots_of b)) bs → Steps (with_blob r k bs)
   unfolding with_blob
-  with_steps r k [] g live = refused_steps _ (nowhere 3)
+  with_steps r k [] g live = refused_steps _ (nowhere NotARoot)
   with_steps {A} r k (b ∷ bs) g live =
       picked (λ (o : Outcome A). Steps o) (eqb (root_of b) r) _ _ (g b live.0) (with_steps r k bs g live.1)
 
@@ -144,17 +146,17 @@ module _ (e : Edition) (N : ℕ) (small : N ≤ 2 ^ 32) (S : Store) (is : Settle
       → Steps (changing e N P R r k)
   unfolding changing rooted
   changing_steps r k g =
-      if_steps _ 3 _ (λ t. check_steps _ _ (λ bs seen v. with_steps r k bs g (pool_reach e N P R (Live N R) (λ x l z. l) v).blobs))
+      if_steps _ _ _ (λ t. check_steps _ _ (λ bs seen v. with_steps r k bs g (pool_reach e N P R (Live N R) (λ x l z. l) v).blobs))
 
   -- a call that reads it
   reading_steps : {A : Type 0} (r : ℕ) (k : Blob → Outcome A) → ((b : Blob) → Steps (k b)) → Steps (reading e N P R r k)
   unfolding reading rooted
-  reading_steps r k g = if_steps _ 3 _ (λ t. check_steps _ _ (λ b seen v. g b))
+  reading_steps r k g = if_steps _ _ _ (λ t. check_steps _ _ (λ b seen v. g b))
 
   -- each call, on a pool of N slots: create
   create_steps : Steps (create_in e N P R)
   unfolding create_in create_on refuse_full
-  create_steps = check_steps _ _ (λ bs seen v. if_steps _ 11 _ (λ t. become_steps _ 2 [] _ ready))
+  create_steps = check_steps _ _ (λ bs seen v. if_steps _ _ _ (λ t. become_steps _ 2 [] _ ready))
     where
       cell : Cell
       cell = record { height = 0; items = [] }
@@ -172,14 +174,14 @@ module _ (e : Edition) (N : ℕ) (small : N ≤ 2 ^ 32) (S : Store) (is : Settle
   write_steps : (r offset : ℕ) (d : List ℕ) → Steps (write_in e N P R r offset d)
   unfolding write_in write_on refuse_worn refuse_past slots_of
   write_steps r offset d =
-      changing_steps r _ (λ b live. if_steps _ 12 _ (λ t. if_steps _ 10 _ (λ u.
+      changing_steps r _ (λ b live. if_steps _ _ _ (λ t. if_steps _ _ _ (λ u.
       become_steps tt 1 (cells_of b) _ (ready_blob b _ live (refilled_taken Young _ b (blob_young b t))))))
 
   -- resize
   resize_steps : (r len : ℕ) → Steps (resize_in e N P R r len)
   unfolding resize_in resize_on refuse_worn refuse_full slots_of
   resize_steps r len =
-      changing_steps r _ (λ b live. if_steps _ 12 _ (λ t. if_steps _ 11 _ (λ u.
+      changing_steps r _ (λ b live. if_steps _ _ _ (λ t. if_steps _ _ _ (λ u.
       become_steps tt 1 (cells_of b) _ (ready_blob b _ live (resized_taken Young past_young e len (usable e N P R) b (blob_young b t) usable_young)))))
 
   -- delete
@@ -195,12 +197,12 @@ module _ (e : Edition) (N : ℕ) (small : N ≤ 2 ^ 32) (S : Store) (is : Settle
   -- read
   read_steps : (r offset size : ℕ) → Steps (read_in e N P R r offset size)
   unfolding read_in read_on refuse_past
-  read_steps r offset size = reading_steps r _ (λ b. if_steps _ 10 _ (λ t. none_steps _))
+  read_steps r offset size = reading_steps r _ (λ b. if_steps _ _ _ (λ t. none_steps _))
 
   -- show a leaf
   show_steps : (r k : ℕ) → Steps (show_in e N P R r k)
   unfolding show_in show_on
-  show_steps r k = reading_steps r _ (λ b. if_steps _ 10 _ (λ t. none_steps _))
+  show_steps r k = reading_steps r _ (λ b. if_steps _ _ _ (λ t. none_steps _))
 
   -- audit
   audit_steps : Steps (audit_in e N P R)

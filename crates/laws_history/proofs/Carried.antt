@@ -1,5 +1,6 @@
 -- What a written block carries: the mark, its slot and its version, whatever its cell. Check 2 reads no more than these, so a block that
 -- carries another slot, or its own slot at another version, fails it with the number that says so.
+use Rattle.std.specs.Prelude.{Some}
 use mathlib.Core.Path.{◌≡◌, refl, ap, ◌∙◌}
 use mathlib.Core.Bool.{true}
 use mathlib.Core.List.{List, [], ◌∷◌, ◌++◌}
@@ -13,6 +14,7 @@ use Rattle.meaning.specs.Lists.{pick, part, number, bytes, padded, same_list}
 use Rattle.meaning.specs.Edition.{Proper}
 use Rattle.meaning.specs.Bytes.{Cell, item_bytes, header, block_bytes, encoded, own_slot, version_of}
 use Rattle.meaning.specs.Walk.{flaw}
+use Rattle.meaning.specs.declared.Reason.TheVariants.{Moved, RolledBack, Ahead}
 use Rattle.laws.proofs.Numbers.{number_bytes}
 use Rattle.laws.proofs.Inversions.{same_self}
 
@@ -62,17 +64,17 @@ module _ (e : Edition) (v x y w : ℕ) (b : List ℕ) (c : Carries e y w b) wher
   marked = ap (λ (l : List ℕ). same_list l e.mark) c.mark ∙ same_self e.mark
 
   -- another slot's block has moved
-  pub moved_flaw : (y ≡ x → ⊥) → flaw e v x b ≡ 5
+  pub moved_flaw : (y ≡ x → ⊥) → flaw e v x b ≡ Some Moved
   unfolding flaw pick
   moved_flaw d = simp (marked, c.slot, ne_eqb y x d)
 
   -- an older block of its own is rolled back
-  pub older_flaw : y ≡ x → w < v → flaw e v x b ≡ 6
+  pub older_flaw : y ≡ x → w < v → flaw e v x b ≡ Some RolledBack
   unfolding flaw pick
   older_flaw q l = simp (marked, c.slot, eq-eqb y x q, c.version, lt-ltb w v l)
 
   -- a newer one is ahead
-  pub newer_flaw : y ≡ x → v < w → flaw e v x b ≡ 7
+  pub newer_flaw : y ≡ x → v < w → flaw e v x b ≡ Some Ahead
   unfolding flaw pick
   newer_flaw q l =
       let k : v ≤ w = omega arith in

@@ -2,6 +2,7 @@
 -- slots holds zeros or what some slot held at some moment of the run. Length, read and show answer as on the writer's pool exactly if every
 -- block of the blob is as it was; otherwise they are refused, and the refusal names the first block, in walk order, that is not. The audit
 -- passes exactly if the whole pool is as it was. Assumed of the moment: the writer's own pool check passes there.
+use Rattle.std.specs.Prelude.{None, Some, Option}
 use mathlib.Core.Path.{◌≡◌, refl, sym, ap, ◌∙◌}
 use mathlib.Core.Bool.{Bool, true, false}
 use mathlib.Core.List.{List, [], Memᴰ}
@@ -12,7 +13,6 @@ use borrow.Author.Tests.{ltb-true, ltb-false}
 use lib.Dec.{ltb}
 use lib.ListN.{length, drop, drop_of_length-le}
 use Rattle.meaning.specs.declared.Edition.{Edition}
-use Rattle.meaning.specs.declared.Named.TheVariants.{Nowhere, Slot}
 use Rattle.meaning.specs.declared.Refusal.{Refusal}
 use Rattle.meaning.specs.Lists.{part}
 use Rattle.meaning.specs.Edition.{Proper}
@@ -26,6 +26,7 @@ use Rattle.meaning.specs.Calls.{length_on, length_in, read_on, read_in, show_on,
 use Rattle.meaning.specs.Calls.{length_call, read_call, show_call, audit_call}
 use Rattle.meaning.specs.Answers.{shown_part}
 use Rattle.meaning.specs.Run.{Call, run}
+use Rattle.meaning.specs.declared.Reason.{Reason}
 use Rattle.laws.proofs.Inversions.{by_test}
 use Rattle.laws.proofs.Every.{Every}
 use Rattle.laws_history.proofs.Local.{Same, Told}
@@ -51,28 +52,28 @@ root_within R N r long is =
     absurd (omega (arith, rw d at is)))
 
 -- a refusal that names no slot, or none at all, is not one that names a slot
-unnamed : {A : Type 0} (t : Bool) (m : ℕ) (a : A) (cs : List Change) (n s : ℕ) → refuse_if t m (done a cs) ≡ refused (at n s) → ⊥
+unnamed : {A : Type 0} (t : Bool) (m : Reason) (a : A) (cs : List Change) (n : Reason) (s : ℕ) → refuse_if t m (done a cs) ≡ refused (at n s) → ⊥
 unfolding refuse_if at nowhere refusal_of
 unnamed true m a cs n s h =
     let q : nowhere m ≡ at n s = cc in
-    let named : Nowhere ≡ Slot s = ap (λ (r : Refusal). r.named) q in
+    let named : ◌≡◌ {A = Option ℕ} None (Some s) = ap (λ (r : Refusal). r.named) q in
     let z : ◌≡◌ {A = ℕ} 0 1 = cc in
     omega arith
 unnamed false m a cs n s h = let z : ◌≡◌ {A = ℕ} 0 1 = cc in omega arith
 
 -- so on a blob that was found no reading call names a slot
-module _ (e : Edition) (N : ℕ) (P R : List ℕ) (b : Blob) (n s : ℕ) where
+module _ (e : Edition) (N : ℕ) (P R : List ℕ) (b : Blob) (n : Reason) (s : ℕ) where
   length_unnamed : length_on e N P R b ≡ refused (at n s) → ⊥
   unfolding length_on refuse_if
-  length_unnamed h = unnamed false 0 (length_of b) [] n s h
+  length_unnamed h = unnamed false n (length_of b) [] n s h
 
   read_unnamed : (offset size : ℕ) → read_on e N P R offset size b ≡ refused (at n s) → ⊥
   unfolding read_on refuse_past
-  read_unnamed offset size h = unnamed _ 10 _ _ n s h
+  read_unnamed offset size h = unnamed _ _ _ _ n s h
 
   show_unnamed : (k : ℕ) → show_on e N P R k b ≡ refused (at n s) → ⊥
   unfolding show_on
-  show_unnamed k h = unnamed _ 10 _ _ n s h
+  show_unnamed k h = unnamed _ _ _ _ n s h
 
 -- what the reading calls answer of root r, on the other pool against the writer's: r's blob b, found in the writer's pool, and each call
 pub record Answers (e : Edition) (N : ℕ) (P P* R : List ℕ) (r : ℕ) : Type 0 where
@@ -123,7 +124,7 @@ module _ (e : Edition) (p : Proper e) (S₀ : Store) (good : sized e S₀.pool S
 
   -- any call that reads the blob of root r, as a function of the number of slots
   call_exact : {A : Type 0} (r : ℕ) (b : Blob) (m : List ℕ) → blob_check e N P R r ≡ fine b m → r < N → state R r ≡ 2
-      → (k : Blob → Outcome A) → ((n s : ℕ) → k b ≡ refused (at n s) → ⊥)
+      → (k : Blob → Outcome A) → ((why : Reason) (s : ℕ) → k b ≡ refused (at why s) → ⊥)
       → (inside inside* : ℕ → Outcome A) → inside N ≡ reading e N P R r k → inside* N ≡ reading e N P* R r k
       → Exact e P P* R b (opened e P R (inside (slots_in e P))) (opened e P* R (inside* (slots_in e P*)))
   call_exact r b m found within root k free inside inside* q q* =

@@ -1,5 +1,6 @@
 -- A walk that goes well with slots already visited goes well with fewer, and finds the same: check 1 asks only that a child was not visited.
 -- So where the pool check passes, the blob check of every root passes.
+use Rattle.std.specs.Prelude.{Err, Ok}
 use mathlib.Core.Path.{◌≡◌, refl, sym, ap, subst, ◌∙◌}
 use mathlib.Core.Bool.{Bool, true}
 use mathlib.Core.List.{List, [], ◌∷◌}
@@ -12,7 +13,6 @@ use lib.Seq.{get_or-set_same, get_or-set_other, set_out}
 use Rattle.meaning.specs.declared.Edition.{Edition}
 use Rattle.meaning.specs.declared.Role.{Role}
 use Rattle.meaning.specs.declared.Role.TheVariants.{Root, Child}
-use Rattle.meaning.specs.declared.Checked.TheVariants.{Passed}
 use Rattle.meaning.specs.Lists.{both, range}
 use Rattle.meaning.specs.Bytes.{block, height_of, children_of, state, recorded}
 use Rattle.meaning.specs.Tree.{Tree, Blob}
@@ -55,7 +55,7 @@ fewer_none N seen l = record { long = length-replicate N 0 ∙ sym l; unset = λ
     blank (suc n) (suc x) = blank n x
 
 -- check 1 passes with fewer
-link_fewer : (N : ℕ) (R seen m : List ℕ) (role : Role) (s : ℕ) → Fewer m seen → link_check N R seen role s ≡ Passed → link_check N R m role s ≡ Passed
+link_fewer : (N : ℕ) (R seen m : List ℕ) (role : Role) (s : ℕ) → Fewer m seen → link_check N R seen role s ≡ Ok tt → link_check N R m role s ≡ Ok tt
 unfolding link_check
 link_fewer N R seen m Root s f link = refl
 link_fewer N R seen m (Child p) s f link =
@@ -68,7 +68,7 @@ module _ (e : Edition) (N : ℕ) (P R : List ℕ) where
   Found-too f a seen' = (m' : List ℕ) × (f ≡ fine a m') × Fewer m' seen'
 
   -- one visit
-  one_fewer : (h : ℕ) (role : Role) (edge : Bool) (seen m : List ℕ) (s : ℕ) → Fewer m seen → link_check N R seen role s ≡ Passed
+  one_fewer : (h : ℕ) (role : Role) (edge : Bool) (seen m : List ℕ) (s : ℕ) → Fewer m seen → link_check N R seen role s ≡ Ok tt
       → Sound e h (is_root role) edge (recorded R s) s (block e P s)
       → one_visit e N P R h role edge m s ≡ fine (block e P s) (set m s 1)
   one_fewer h role edge seen m s f link sound =

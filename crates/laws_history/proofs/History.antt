@@ -1,6 +1,7 @@
 -- Over any run of calls a slot and a version determine a block. Every call leaves a slot, raises its version by one or frees it with its
 -- version kept, so versions never fall, and a slot that is live at one version twice was not touched between. A live block carries its slot
 -- and version, so any block of the history in another place, or from another time, fails check 2.
+use Rattle.std.specs.Prelude.{Option, Some, None}
 use mathlib.Core.Path.{◌≡◌, refl, sym, ap, subst, ◌∙◌}
 use mathlib.Core.Logic.{◌⊎◌, inl, inr, ⊎_elim}
 use mathlib.Core.List.Memᴰ
@@ -16,8 +17,10 @@ use Rattle.meaning.specs.Bytes.{block, record_at, record_of, state, recorded}
 use Rattle.meaning.specs.Walk.{flaw}
 use Rattle.meaning.specs.Change.{Store}
 use Rattle.meaning.specs.Run.{Call, perform, moments}
+use Rattle.meaning.specs.declared.Reason.{Reason}
+use Rattle.meaning.specs.declared.Reason.TheVariants.{Spoiled, Moved, RolledBack, Ahead}
 use Rattle.laws.proofs.Codec.{blank_flaw, state_of_lem, recorded_of_lem}
-use Rattle.laws.proofs.Inversions.{by_test}
+use Rattle.laws.proofs.Inversions.{by_test, some_not_none}
 use Rattle.laws.proofs.Every.{Every, every_mem}
 use Rattle.laws_history.proofs.Stepped.{Risen, Stepped, same, risen, gone, Settled, state_same, recorded_same}
 use Rattle.laws_history.proofs.CallSteps.{call_steps}
@@ -44,19 +47,19 @@ pub data Since (e : Edition) (S S' : Store) (x : ℕ) : Type 0 where
   freed : state_in S' x ≡ 0 → version_in S' x ≡ version_in S x → Since e S S' x
   later : version_in S x < version_in S' x → Since e S S' x
 
--- what check 2 says, by its number n, of a block that slot y held at moment T, in slot x where the record has version v
-pub data Misplaced (T : Store) (y v x n : ℕ) : Type 0 where
-  spoiled : state_in T y ≡ 0 → n ≡ 4 → Misplaced T y v x n
-  moved : 1 ≤ state_in T y → (y ≡ x → ⊥) → n ≡ 5 → Misplaced T y v x n
-  rolled_back_lem : 1 ≤ state_in T y → y ≡ x → version_in T y < v → n ≡ 6 → Misplaced T y v x n
-  ahead : 1 ≤ state_in T y → y ≡ x → v < version_in T y → n ≡ 7 → Misplaced T y v x n
+-- what check 2 says, f, of a block that slot y held at moment T, in slot x where the record has version v
+pub data Misplaced (T : Store) (y v x : ℕ) (f : Option Reason) : Type 0 where
+  spoiled : state_in T y ≡ 0 → f ≡ Some Spoiled → Misplaced T y v x f
+  moved : 1 ≤ state_in T y → (y ≡ x → ⊥) → f ≡ Some Moved → Misplaced T y v x f
+  rolled_back_lem : 1 ≤ state_in T y → y ≡ x → version_in T y < v → f ≡ Some RolledBack → Misplaced T y v x f
+  ahead : 1 ≤ state_in T y → y ≡ x → v < version_in T y → f ≡ Some Ahead → Misplaced T y v x f
 
 -- it says something
-pub misplaced_some : {T : Store} {y v x n : ℕ} → Misplaced T y v x n → n ≡ 0 → ⊥
-misplaced_some (spoiled z q) = omega arith
-misplaced_some (moved l d q) = omega arith
-misplaced_some (rolled_back_lem l d o q) = omega arith
-misplaced_some (ahead l d o q) = omega arith
+pub misplaced_some : {T : Store} {y v x : ℕ} {f : Option Reason} → Misplaced T y v x f → f ≡ None → ⊥
+misplaced_some (spoiled z q) = λ n. some_not_none (sym q ∙ n)
+misplaced_some (moved l d q) = λ n. some_not_none (sym q ∙ n)
+misplaced_some (rolled_back_lem l d o q) = λ n. some_not_none (sym q ∙ n)
+misplaced_some (ahead l d o q) = λ n. some_not_none (sym q ∙ n)
 
 -- the version of a slot that has risen
 risen_version : (e : Edition) (S S' : Store) (x : ℕ) → Risen e S S' x → version_in S' x ≡ version_in S x + 1

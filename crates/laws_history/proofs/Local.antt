@@ -1,6 +1,7 @@
 -- The walk depends only on the blocks of its tree. Over another pool with the same records it goes the same way up to the first block, in
 -- walk order, that is not as it was; there it stops with that block's check 2, if every such block fails it. So the blob check gives
 -- the same blob, or the fault that names the first block that differs.
+use Rattle.std.specs.Prelude.{Err, Ok, Option, None, Some}
 use mathlib.Core.Path.{◌≡◌, refl, sym, ap, subst, ◌∙◌}
 use mathlib.Core.Bool.{Bool, true, false}
 use mathlib.Core.List.{List, [], ◌∷◌, ◌++◌, map}
@@ -9,13 +10,14 @@ use lib.ListN.{set, replicate}
 use Rattle.meaning.specs.declared.Edition.{Edition}
 use Rattle.meaning.specs.declared.Role.{Role}
 use Rattle.meaning.specs.declared.Role.TheVariants.{Root, Child}
-use Rattle.meaning.specs.declared.Checked.TheVariants.{Passed, Faulty}
 use Rattle.meaning.specs.Lists.{pick, both, same_list, joined}
 use Rattle.meaning.specs.Bytes.{block, height_of, data_of, children_of, recorded}
 use Rattle.meaning.specs.Tree.{Tree, Blob, slots_of}
-use Rattle.meaning.specs.Refusals.{at}
+use Rattle.meaning.specs.Refusals.{at, number_of}
 use Rattle.meaning.specs.Walk.{flaw, block_check, is_root, link_check, Found, fault, fine, and_then, passing}
 use Rattle.meaning.specs.Walk.{is_empty, one_visit, visit_row, visit, from_root, blob_check}
+use Rattle.meaning.specs.declared.Reason.{Reason}
+use Rattle.meaning.specs.declared.Reason.TheVariants.{Spoiled}
 use Rattle.laws.proofs.Checks.{check_flaw}
 use Rattle.laws.proofs.Inversions.{Sound, never, by_test, same_list_lem, same_self, passed_passing, sound_passed, flaw_number}
 use Rattle.laws.proofs.Walked.{leaf_found, inner_found, none_found, row_found, root_found}
@@ -31,19 +33,33 @@ unlike a b t q = never (sym (same_self b) ∙ ap (λ (l : List ℕ). same_list l
 abbrev pub Same : Edition → (P P* : List ℕ) → ℕ → Type 0
 Same e P P* x = block e P* x ≡ block e P x
 
--- the number of the fault that check 2 finds at slot x of the other pool
-abbrev pub other_flaw : Edition → (P* R : List ℕ) → ℕ → ℕ
+-- what check 2 finds wrong at slot x of the other pool
+abbrev pub other_flaw : Edition → (P* R : List ℕ) → ℕ → Option Reason
 other_flaw e P* R x = flaw e (recorded R x) x (block e P* x)
+
+-- the reason, where something is wrong
+pub why_of : Option Reason → Reason
+why_of None = Spoiled
+why_of (Some why) = why
+
+some_why : (f : Option Reason) → (f ≡ None → ⊥) → f ≡ Some (why_of f)
+unfolding why_of
+some_why None n = absurd (n refl)
+some_why (Some why) n = refl
+
+-- and that of slot x
+abbrev pub other_why : Edition → (P* R : List ℕ) → ℕ → Reason
+other_why e P* R x = why_of (other_flaw e P* R x)
 
 -- what passes check 2 at slot x is what it held
 abbrev pub Told : Edition → (P P* R : List ℕ) → ℕ → Type 0
-Told e P P* R x = other_flaw e P* R x ≡ 0 → Same e P P* x
+Told e P P* R x = other_flaw e P* R x ≡ None → Same e P P* x
 
 module _ (e : Edition) (P P* R : List ℕ) where
   -- f, unless one of these slots is not as it was: then the fault of the first such
   unfoldable pub first_other : {A : Type 0} → List ℕ → Found A → Found A
   first_other [] f = f
-  first_other (x ∷ xs) f = pick (same_list (block e P* x) (block e P x)) (first_other xs f) (fault (at (other_flaw e P* R x) x))
+  first_other (x ∷ xs) f = pick (same_list (block e P* x) (block e P x)) (first_other xs f) (fault (at (other_why e P* R x) x))
 
   -- where each of these slots is as it was
   pub other_none : {A : Type 0} (xs : List ℕ) (f : Found A) → Every (Same e P P*) xs → first_other xs f ≡ f
@@ -55,13 +71,13 @@ module _ (e : Edition) (P P* R : List ℕ) where
 
   -- where the first is not
   other_here : {A : Type 0} (x : ℕ) (xs : List ℕ) (f : Found A) → same_list (block e P* x) (block e P x) ≡ false
-      → first_other (x ∷ xs) f ≡ fault (at (other_flaw e P* R x) x)
+      → first_other (x ∷ xs) f ≡ fault (at (other_why e P* R x) x)
   unfolding first_other pick
   other_here x xs f t = rw t
 
   -- a slot is as it was, or what it holds fails check 2
   same_or_not : {B : Type 0} (x : ℕ) → Told e P P* R x → (Same e P P* x → B)
-      → (same_list (block e P* x) (block e P x) ≡ false → (other_flaw e P* R x ≡ 0 → ⊥) → B) → B
+      → (same_list (block e P* x) (block e P x) ≡ false → (other_flaw e P* R x ≡ None → ⊥) → B) → B
   same_or_not x told f g =
       by_test (same_list (block e P* x) (block e P x))
       (λ t. f (same_list_lem (block e P* x) (block e P x) t))
@@ -89,7 +105,7 @@ module _ (e : Edition) (P P* R : List ℕ) where
 
   -- the first slot that is not as it was
   pub other_first : {A : Type 0} (before : List ℕ) (x : ℕ) (later : List ℕ) (f : Found A) → Every (Same e P P*) before → (Same e P P* x → ⊥)
-      → first_other (before ++ (x ∷ later)) f ≡ fault (at (other_flaw e P* R x) x)
+      → first_other (before ++ (x ∷ later)) f ≡ fault (at (other_why e P* R x) x)
   other_first before x later f same d =
       other_append before (x ∷ later) f ∙ other_none before _ same
       ∙ by_test (same_list (block e P* x) (block e P x))
@@ -97,17 +113,20 @@ module _ (e : Edition) (P P* R : List ℕ) where
       (λ t. other_here x later f t)
 
   -- its number is one of check 2's
-  pub other_number : (x : ℕ) → Told e P P* R x → (Same e P P* x → ⊥) → (4 ≤ other_flaw e P* R x) × (other_flaw e P* R x ≤ 7)
-  other_number x told d = flaw_number e (recorded R x) x (block e P* x) (λ z. d (told z))
+  pub other_number : (x : ℕ) → Told e P P* R x → (Same e P P* x → ⊥) → (4 ≤ number_of (other_why e P* R x)) × (number_of (other_why e P* R x) ≤ 7)
+  other_number x told d =
+      flaw_number e (recorded R x) x (block e P* x) (other_why e P* R x) (some_why (other_flaw e P* R x) (λ z. d (told z)))
 
   -- what fails check 2 fails the block's checks
-  faulty : (h : ℕ) (root edge : Bool) (s : ℕ) → (other_flaw e P* R s ≡ 0 → ⊥)
-      → Faulty (at (other_flaw e P* R s) s) ≡ block_check e h root edge (recorded R s) s (block e P* s)
-  faulty h root edge s n = check_flaw e h root edge (recorded R s) s (block e P* s) (other_flaw e P* R s) refl n (at (other_flaw e P* R s) s) refl
+  faulty : (h : ℕ) (root edge : Bool) (s : ℕ) → (other_flaw e P* R s ≡ None → ⊥)
+      → Err (at (other_why e P* R s) s) ≡ block_check e h root edge (recorded R s) s (block e P* s)
+  faulty h root edge s n =
+      check_flaw e h root edge (recorded R s) s (block e P* s) (other_flaw e P* R s) refl (other_why e P* R s) (some_why (other_flaw e P* R s) n)
+      (at (other_why e P* R s) s) refl
 
   module _ (N : ℕ) where
     -- one visit whose checks pass in the first pool
-    visit_one : (h : ℕ) (role : Role) (edge : Bool) (seen : List ℕ) (s : ℕ) → link_check N R seen role s ≡ Passed
+    visit_one : (h : ℕ) (role : Role) (edge : Bool) (seen : List ℕ) (s : ℕ) → link_check N R seen role s ≡ Ok tt
         → Sound e h (is_root role) edge (recorded R s) s (block e P s) → Told e P P* R s
         → one_visit e N P* R h role edge seen s ≡ first_other (s ∷ []) (fine (block e P s) (set seen s 1))
     unfolding one_visit passing
@@ -122,8 +141,8 @@ module _ (e : Edition) (P P* R : List ℕ) where
         checked b = passing (block_check e h (is_root role) edge (recorded R s) s b) (fine b (set seen s 1))
 
     -- a block that fails check 2 ends the walk there, whatever height is asked
-    visit_flawed : (h : ℕ) (role : Role) (edge : Bool) (seen : List ℕ) (s : ℕ) → link_check N R seen role s ≡ Passed → (other_flaw e P* R s ≡ 0 → ⊥)
-        → visit e N P* R h role edge seen s ≡ fault (at (other_flaw e P* R s) s)
+    visit_flawed : (h : ℕ) (role : Role) (edge : Bool) (seen : List ℕ) (s : ℕ) → link_check N R seen role s ≡ Ok tt → (other_flaw e P* R s ≡ None → ⊥)
+        → visit e N P* R h role edge seen s ≡ fault (at (other_why e P* R s) s)
     unfolding visit one_visit passing and_then
     visit_flawed zero role edge seen s link n =
         rw (link, ← faulty zero (is_root role) edge s n)

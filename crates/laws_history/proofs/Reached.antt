@@ -1,6 +1,7 @@
 -- What holds of each slot that a walk visited. A claim that follows from check 1 (the slot is in the pool and live) and check 2 (the block
 -- there has no flaw) holds of every slot of the tree, and of every slot that is flagged as visited. The pool check goes from every root
 -- and leaves no part unvisited, so after it such a claim holds of every live slot.
+use Rattle.std.specs.Prelude.{Err, Ok, None}
 use mathlib.Core.Path.{◌≡◌, refl, sym, ap, subst, ◌∙◌}
 use mathlib.Core.Bool.{Bool, true}
 use mathlib.Core.List.{List, [], ◌∷◌, map}
@@ -13,7 +14,6 @@ use lib.Seq.{get_or-set_other}
 use Rattle.meaning.specs.declared.Edition.{Edition}
 use Rattle.meaning.specs.declared.Role.{Role}
 use Rattle.meaning.specs.declared.Role.TheVariants.{Root, Child}
-use Rattle.meaning.specs.declared.Checked.TheVariants.{Passed}
 use Rattle.meaning.specs.Lists.{pick, both, joined, range, zeros}
 use Rattle.meaning.specs.Bytes.{block, height_of, children_of, state, recorded}
 use Rattle.meaning.specs.Tree.{Tree, Blob, slots_of}
@@ -46,7 +46,7 @@ abbrev pub Live : (N : ℕ) → (R : List ℕ) → ℕ → Type 0
 Live N R x = (x < N) × (1 ≤ state R x)
 
 -- a slot that was visited is live: a child's by check 1
-slot_live : (N : ℕ) (R seen : List ℕ) (role : Role) (s : ℕ) → link_check N R seen role s ≡ Passed → (is_root role ≡ true → Live N R s) → Live N R s
+slot_live : (N : ℕ) (R seen : List ℕ) (role : Role) (s : ℕ) → link_check N R seen role s ≡ Ok tt → (is_root role ≡ true → Live N R s) → Live N R s
 unfolding is_root
 slot_live N R seen Root s link root = root refl
 slot_live N R seen (Child p) s link root =
@@ -54,13 +54,13 @@ slot_live N R seen (Child p) s link root =
     (l.within, omega (arith, l.part))
 
 module _ (e : Edition) (N : ℕ) (P R : List ℕ) (Q : ℕ → Type 0)
-    (holds : (x : ℕ) → Live N R x → flaw e (recorded R x) x (block e P x) ≡ 0 → Q x) where
+    (holds : (x : ℕ) → Live N R x → flaw e (recorded R x) x (block e P x) ≡ None → Q x) where
   -- Q holds of these slots, and of each flagged slot if it did before
   abbrev pub Reach : (xs seen seen' : List ℕ) → Type 0
   Reach xs seen seen' = Every Q xs × (Flagged Q seen → Flagged Q seen')
 
   -- a visited slot itself
-  here : (h : ℕ) (role : Role) (edge : Bool) (seen : List ℕ) (s : ℕ) → link_check N R seen role s ≡ Passed → (is_root role ≡ true → Live N R s)
+  here : (h : ℕ) (role : Role) (edge : Bool) (seen : List ℕ) (s : ℕ) → link_check N R seen role s ≡ Ok tt → (is_root role ≡ true → Live N R s)
       → Sound e h (is_root role) edge (recorded R s) s (block e P s) → Q s
   here h role edge seen s link root sound =
       holds s (slot_live N R seen role s link root) (no_flaw e (recorded R s) s (block e P s) sound.mark sound.own sound.version)
@@ -129,7 +129,7 @@ module _ (e : Edition) (N : ℕ) (P R : List ℕ) (Q : ℕ → Type 0)
       (((λ z. never (sym (eq-eqb (state R s) 2 z) ∙ t)), more.0), more.1, more.2))
 
   -- what the closing pass says of a slot
-  closing_says : (ss seen : List ℕ) → closing e N P R ss seen ≡ Passed
+  closing_says : (ss seen : List ℕ) → closing e N P R ss seen ≡ Ok tt
       → Every (λ s. (state R s ≡ 0 → zeros (block e P s) ≡ true) × (state R s ≡ 1 → get_or seen s 0 ≡ 1)) ss
   unfolding closing closing_check pick
   closing_says [] seen c = tt

@@ -1,5 +1,6 @@
 -- A run starts with a wipe of a store of good lengths: every slot is then free, zeros, at version 0. So the laws of a history hold at every
 -- moment of every run.
+use Rattle.std.specs.Prelude.{Some}
 use mathlib.Core.Path.{◌≡◌, refl, sym, ap, subst, ◌∙◌}
 use mathlib.Core.Bool.{true}
 use mathlib.Core.List.{List, Memᴰ}
@@ -18,9 +19,10 @@ use Rattle.meaning.specs.Walk.{flaw}
 use Rattle.meaning.specs.Change.{Store}
 use Rattle.meaning.specs.Calls.{slots_in, sized, free_records, wiped, after_wipe}
 use Rattle.meaning.specs.Run.{Call, run}
+use Rattle.meaning.specs.declared.Reason.TheVariants.{Spoiled}
 use Rattle.laws.proofs.Free.{free_record, free_length}
 use Rattle.laws.proofs.Codec.{record_kept, state_of_lem, recorded_of_lem, blank_flaw}
-use Rattle.laws.proofs.Inversions.{by_test, both_true, true_both, same_list_lem}
+use Rattle.laws.proofs.Inversions.{by_test, both_true, true_both, same_list_lem, some_not_none}
 use Rattle.laws_history.proofs.Local.{unlike, Told}
 use Rattle.laws_history.proofs.Stepped.{Settled}
 use Rattle.laws.proofs.Walked.{slots_in_lem}
@@ -156,8 +158,8 @@ module _ (e : Edition) (p : Proper e) (S₀ : Store) (good : sized e S₀.pool S
     where
       go : Filling e N (run e S₀ calls) (block e P* x) → block e P* x ≡ block_in e S x
       go (blank q) =
-          let f : flaw e (version_in S x) x (block e P* x) ≡ 4 = ap (flaw e (version_in S x) x) q ∙ blank_flaw e p (version_in S x) x in
-          absurd (omega arith)
+          let f : flaw e (version_in S x) x (block e P* x) ≡ Some Spoiled = ap (flaw e (version_in S x) x) q ∙ blank_flaw e p (version_in S x) x in
+          some_not_none (sym f ∙ z)
       go (held T y b k q) =
           by_test (same_list (block_in e T y) (block_in e S x))
           (λ t. q ∙ same_list_lem (block_in e T y) (block_in e S x) t)

@@ -9,6 +9,8 @@ use Rattle.meaning.specs.Walk.{Found, fault, fine, blob_check, pool_check}
 use Rattle.meaning.specs.Change.{Change, Store, changes, changed_by}
 use Rattle.meaning.specs.Resize.{lowest, refilled, resized}
 use Rattle.meaning.specs.declared.Edition.{Edition}
+use Rattle.meaning.specs.declared.Reason.{Reason}
+use Rattle.meaning.specs.declared.Reason.TheVariants.{WrongLengths, BadRecord, NotARoot, OutOfRange, NoRoom, WornOut}
 use Rattle.meaning.specs.declared.Refusal.{Refusal}
 
 -- a call is refused, with no change; or done, with its value and its changes
@@ -16,9 +18,9 @@ pub data Outcome (A : Type 0) : Type 0 where
   refused : Refusal → Outcome A
   done : A → List Change → Outcome A
 
-unfoldable pub refuse_if : {A : Type 0} → Bool → ℕ → Outcome A → Outcome A
-refuse_if true n o = refused (nowhere n)
-refuse_if false n o = o
+unfoldable pub refuse_if : {A : Type 0} → Bool → Reason → Outcome A → Outcome A
+refuse_if true why o = refused (nowhere why)
+refuse_if false why o = o
 
 unfoldable pub after_check : {A B : Type 0} → Found A → (A → Outcome B) → Outcome B
 after_check (fault r) k = refused r
@@ -36,15 +38,15 @@ sized e P R =
 -- refusal 2: the lowest record that breaks its layout
 unfoldable pub refuse_bad_record : {A : Type 0} → List ℕ → List ℕ → Outcome A → Outcome A
 refuse_bad_record R [] o = o
-refuse_bad_record R (s ∷ ss) o = pick (sound_record (record_at R s)) (refuse_bad_record R ss o) (refused (at 2 s))
+refuse_bad_record R (s ∷ ss) o = pick (sound_record (record_at R s)) (refuse_bad_record R ss o) (refused (at BadRecord s))
 
 -- refusals 1 and 2, which every call but wipe makes first
 unfoldable pub opened : {A : Type 0} → Edition → (P R : List ℕ) → Outcome A → Outcome A
-opened e P R o = refuse_if (not (sized e P R)) 1 (refuse_bad_record R (range 0 (slots_in e P)) o)
+opened e P R o = refuse_if (not (sized e P R)) WrongLengths (refuse_bad_record R (range 0 (slots_in e P)) o)
 
 -- the blob with that root; of none, refusal 3, which a root's record rules out
 unfoldable pub with_blob : {A : Type 0} → (r : ℕ) → (Blob → Outcome A) → List Blob → Outcome A
-with_blob r k [] = refused (nowhere 3)
+with_blob r k [] = refused (nowhere NotARoot)
 with_blob r k (b ∷ bs) = pick (eqb (root_of b) r) (k b) (with_blob r k bs)
 
 -- a pool of N slots, behind refusals 1 and 2
@@ -58,7 +60,7 @@ module _ (e : Edition) (N : ℕ) (P R : List ℕ) where
 
   -- refusal 3; then the blob check, or the pool check
   unfoldable pub rooted : {A : Type 0} → (r : ℕ) → Outcome A → Outcome A
-  rooted r o = refuse_if (not (both (ltb r N) (eqb (state R r) 2))) 3 o
+  rooted r o = refuse_if (not (both (ltb r N) (eqb (state R r) 2))) NotARoot o
 
   unfoldable pub reading : {A : Type 0} → (r : ℕ) → (Blob → Outcome A) → Outcome A
   reading r k = rooted r (after_check (blob_check e N P R r) k)
@@ -68,13 +70,13 @@ module _ (e : Edition) (N : ℕ) (P R : List ℕ) where
 
   -- refusals 12, 10 and 11
   unfoldable pub refuse_worn : {A : Type 0} → Blob → Outcome A → Outcome A
-  refuse_worn b o = refuse_if (not (all (λ s. ltb (recorded R s) last_version) (slots_of b))) 12 o
+  refuse_worn b o = refuse_if (not (all (λ s. ltb (recorded R s) last_version) (slots_of b))) WornOut o
 
   unfoldable pub refuse_past : {A : Type 0} → Blob → (offset size : ℕ) → Outcome A → Outcome A
-  refuse_past b offset size o = refuse_if (ltb (length_of b) (offset + size)) 10 o
+  refuse_past b offset size o = refuse_if (ltb (length_of b) (offset + size)) OutOfRange o
 
   unfoldable pub refuse_full : {A : Type 0} → (need : ℕ) → Outcome A → Outcome A
-  refuse_full need o = refuse_if (ltb (length usable) need) 11 o
+  refuse_full need o = refuse_if (ltb (length usable) need) NoRoom o
 
   -- these blocks become those; taken is the state that a newly taken slot gets
   unfoldable pub become : (taken : ℕ) → (old new : List (ℕ × Cell)) → List Change
@@ -98,7 +100,7 @@ module _ (e : Edition) (N : ℕ) (P R : List ℕ) where
   unfoldable pub show_on : (k : ℕ) → Blob → Outcome (ℕ × ℕ)
   show_on k b =
       let leaf = get_or (leaves_of b) k (0, []) in
-      refuse_if (leb (length (leaves_of b)) k) 10 (done (leaf.0, length leaf.1) [])
+      refuse_if (leb (length (leaves_of b)) k) OutOfRange (done (leaf.0, length leaf.1) [])
 
   unfoldable pub show_in : (r k : ℕ) → Outcome (ℕ × ℕ)
   show_in r k = reading r (show_on k)

@@ -1,22 +1,20 @@
 -- Document 01's numbers to try that are marked P, its whole one-slot example, a resize worked out slot by slot, and an example of each refusal; then
 -- child links, the last version, and reading heads. One statement over one list of cases, which computes. A case is data, read by the function `right` alone.
-use Rattle.std.specs.Prelude.{◌≡◌, refl, Bool, true, false, List, [], ◌∷◌, ◌++◌, map, ℕ, ◌-◌, ◌^◌, eqb, replicate, set}
+use Rattle.std.specs.Prelude.{◌≡◌, refl, Bool, true, false, List, [], ◌∷◌, ◌++◌, map, ℕ, ◌-◌, ◌^◌, eqb, replicate, set, None, Option, Some}
 use Rattle.meaning.specs.Lists.{pick, both, part, pasted, joined, range, filter, all, of_last, map_last, only, same_list, zeros, number, bytes, padded, fours}
 use Rattle.meaning.specs.Edition.{one}
 use Rattle.meaning.specs.Bytes.{same_cell, item_bytes, header, block_bytes, encoded, block, height_of, count_of, own_slot, version_of, data_of, children_of, record_with, record_of, record_at, state_of, recorded_of, state, recorded, sound_record, last_version, usable_slot}
 use Rattle.meaning.specs.Tree.{slot_of, at_slot, content, leaves, cells, root_of, content_of, leaves_of, cells_of, slots_of, length_of, held}
 use Rattle.meaning.specs.Shape.{up, leaves_for, total_within, total, least_count, most_count}
-use Rattle.meaning.specs.Refusals.{refusal_of, at, nowhere, must, first, slot_number}
+use Rattle.meaning.specs.Refusals.{number_of, refusal_of, at, nowhere, must, first, unless, slot_number}
 use Rattle.meaning.specs.Walk.{flaw, used, formed, block_check, is_root, link_check, and_then, passing, is_empty, one_visit, visit_row, visit, from_root, blob_check, roots, closing_check, closing, pool_check}
 use Rattle.meaning.specs.Change.{Store, put, puts, changed_by, freed, renewed, changed, changes}
 use Rattle.meaning.specs.Resize.{lowest, chain, on_last, roomy, hang, raised, add_leaf, add_leaves, last_leaf, share, shares, last_bytes, longer, keep_row, keep, lower, shorter, resized, along, refill, refilled}
 use Rattle.meaning.specs.Calls.{refuse_if, after_check, slots_in, sized, refuse_bad_record, opened, with_blob, usable, live, rooted, reading, changing, refuse_worn, refuse_past, refuse_full, become, length_on, length_in, read_on, read_in, audit_on, audit_in, create_on, create_in, new_blocks, resize_on, resize_in, write_on, write_in, length_call, read_call, audit_call, create_call, write_call, resize_call, after, free_records, wiped}
-use Rattle.meaning.specs.Answers.{Said, yields, refuses, length_answer, audit_answer, create_answer, change_answer, finish_answer, read_out}
-use Rattle.meaning.specs.Answers.{length_said, audit_said, created_said, changed_said, finished_said, said_with}
+use Rattle.meaning.specs.Answers.{Said, yields, refuses, answer_of, finish_answer, read_out}
+use Rattle.meaning.specs.Answers.{value_said, done_said, said_with}
 use Rattle.meaning.specs.Run.{Call, create, audit, write, resize, tell_length, read, says, perform}
 use Rattle.meaning.specs.Head.{Head, head_at, head_of, open_head, block_at, child_at, below, height_at, byte_at, piece, handed, handed_out, moved, pieces}
-use Rattle.meaning.specs.declared.Named.{Named}
-use Rattle.meaning.specs.declared.Named.TheVariants.{Nowhere, Slot}
 
 -- what is stated of a store
 pub data Fact : Type 0 where
@@ -40,7 +38,7 @@ pub data Case : Type 0 where
   -- in a wiped pool of N slots, these calls
   script : (N : ℕ) → List Step → Case
   -- on this store, a call and the refusal that it gives
-  refusal : Store → Call → ℕ → Named → Case
+  refusal : Store → Call → ℕ → Option ℕ → Case
   -- on this store, a call and the values that it answers
   result : Store → Call → List ℕ → Case
   -- over this pool a head, the sizes asked of it one after the other, and the pieces that it hands out
@@ -75,7 +73,12 @@ same_said (yields vs) (yields ws) = same_list vs ws
 same_said (yields vs) (refuses r) = false
 same_said (refuses r) (yields ws) = false
 same_said (refuses r) (refuses q) =
-    both (eqb r.number q.number) (eqb (slot_number r.named) (slot_number q.named))
+    both (eqb (number_of r.reason) (number_of q.reason)) (eqb (slot_number r.named) (slot_number q.named))
+
+-- a refusal with that number, which names that slot or none
+unfoldable pub refused_with : Said → (number : ℕ) → Option ℕ → Bool
+refused_with (yields vs) n s = false
+refused_with (refuses r) n s = both (eqb (number_of r.reason) n) (eqb (slot_number r.named) (slot_number s))
 
 -- one call after the other, each with its answer and facts
 unfoldable pub played : Store → List Step → Bool
@@ -93,7 +96,7 @@ same_pieces (p ∷ ps) (q ∷ qs) = both (same_list p q) (same_pieces ps qs)
 unfoldable pub right : Case → Bool
 right (blocks len n) = eqb (total one.fan (leaves_for one.leaf len)) n
 right (script N steps) = played (wiped one N) steps
-right (refusal S call n s) = same_said (says one S call) (refuses (refusal_of n s))
+right (refusal S call n s) = refused_with (says one S call) n s
 right (result S call values) = same_said (says one S call) (yields values)
 right (asked P h sizes ps) = same_pieces (pieces one P h sizes) ps
 
@@ -205,29 +208,29 @@ beside b line = two b line (replicate 64 0) (record_of 0 0)
 unfoldable pub refusals : List Case
 refusals =
     -- two slots, one record
-    refusal (two (empty 1) (record_of 2 1) (replicate 64 0) []) audit 1 Nowhere
+    refusal (two (empty 1) (record_of 2 1) (replicate 64 0) []) audit 1 None
     -- a live record of version 0
-    ∷ refusal (beside (empty 0) (record_of 2 0)) audit 2 (Slot 0)
+    ∷ refusal (beside (empty 0) (record_of 2 0)) audit 2 (Some 0)
     -- slot 1 is free
-    ∷ refusal (beside (empty 1) (record_of 2 1)) (tell_length 1) 3 Nowhere
+    ∷ refusal (beside (empty 1) (record_of 2 1)) (tell_length 1) 3 None
     -- another mark
-    ∷ refusal (beside (set (empty 1) 0 0x4d) (record_of 2 1)) (tell_length 0) 4 (Slot 0)
+    ∷ refusal (beside (set (empty 1) 0 0x4d) (record_of 2 1)) (tell_length 0) 4 (Some 0)
     -- a block of slot 1
-    ∷ refusal (beside (set (empty 1) 4 1) (record_of 2 1)) (tell_length 0) 5 (Slot 0)
+    ∷ refusal (beside (set (empty 1) 4 1) (record_of 2 1)) (tell_length 0) 5 (Some 0)
     -- an older copy
-    ∷ refusal (beside (empty 1) (record_of 2 2)) (tell_length 0) 6 (Slot 0)
+    ∷ refusal (beside (empty 1) (record_of 2 2)) (tell_length 0) 6 (Some 0)
     -- a newer one
-    ∷ refusal (beside (empty 2) (record_of 2 1)) (tell_length 0) 7 (Slot 0)
+    ∷ refusal (beside (empty 2) (record_of 2 1)) (tell_length 0) 7 (Some 0)
     -- a stale byte after the count
-    ∷ refusal (beside (set (empty 1) 16 7) (record_of 2 1)) (tell_length 0) 8 (Slot 0)
+    ∷ refusal (beside (set (empty 1) 16 7) (record_of 2 1)) (tell_length 0) 8 (Some 0)
     -- an old block in a free slot
-    ∷ refusal (two (empty 1) (record_of 2 1) (empty 1) (record_of 0 1)) audit 9 (Slot 1)
+    ∷ refusal (two (empty 1) (record_of 2 1) (empty 1) (record_of 0 1)) audit 9 (Some 1)
     -- a byte past the end of an empty blob
-    ∷ refusal (beside (empty 1) (record_of 2 1)) (read 0 0 1) 10 Nowhere
+    ∷ refusal (beside (empty 1) (record_of 2 1)) (read 0 0 1) 10 None
     -- two new blocks, one free slot
-    ∷ refusal (beside (empty 1) (record_of 2 1)) (resize 0 49) 11 Nowhere
+    ∷ refusal (beside (empty 1) (record_of 2 1)) (resize 0 49) 11 None
     -- a worn blob, even where nothing would be written
-    ∷ refusal (beside (empty (2 ^ 64 - 1)) (record_of 2 (2 ^ 64 - 1))) (write 0 0 []) 12 Nowhere
+    ∷ refusal (beside (empty (2 ^ 64 - 1)) (record_of 2 (2 ^ 64 - 1))) (write 0 0 []) 12 None
     ∷ []
 
 -- the store of which such facts, slot by slot, say all
@@ -247,17 +250,17 @@ sharing =
 unfoldable pub links : List Case
 links =
     -- no slot of the pool; the parent is a part here, so that it is not the root that is named
-    refusal (holding (inner 0 2 1 2 (1 ∷ 1 ∷ []) ∷ inner 1 1 1 1 (replicate 12 2) ∷ [])) (tell_length 0) 8 (Slot 1)
+    refusal (holding (inner 0 2 1 2 (1 ∷ 1 ∷ []) ∷ inner 1 1 1 1 (replicate 12 2) ∷ [])) (tell_length 0) 8 (Some 1)
     -- a root
-    ∷ refusal (twice (leaf 1 2 1 full)) (tell_length 0) 8 (Slot 0)
+    ∷ refusal (twice (leaf 1 2 1 full)) (tell_length 0) 8 (Some 0)
     -- already visited, when the row names it again
-    ∷ refusal (twice (leaf 1 1 1 full)) (tell_length 0) 8 (Slot 0)
+    ∷ refusal (twice (leaf 1 1 1 full)) (tell_length 0) 8 (Some 0)
     -- free
-    ∷ refusal (twice (free 1 1)) (tell_length 0) 9 (Slot 1)
+    ∷ refusal (twice (free 1 1)) (tell_length 0) 9 (Some 1)
     -- shared parts: each blob passes its own check, and the pool check names the parent in the blob with the higher root
     ∷ result sharing (tell_length 0) (49 ∷ [])
     ∷ result sharing (tell_length 1) (49 ∷ [])
-    ∷ refusal sharing audit 8 (Slot 1)
+    ∷ refusal sharing audit 8 (Some 1)
     ∷ []
 
 -- the empty blob of slot 0 at this version, beside a free slot at that one
@@ -268,11 +271,11 @@ versions version other = holding (leaf 0 2 version [] ∷ free 1 other ∷ [])
 unfoldable pub worn : List Case
 worn =
     -- a write past the end of a worn blob
-    refusal (versions last_version 0) (write 0 1 (7 ∷ [])) 12 Nowhere
+    refusal (versions last_version 0) (write 0 1 (7 ∷ [])) 12 None
     -- two new blocks for a worn blob, one free slot
-    ∷ refusal (versions last_version 0) (resize 0 49) 12 Nowhere
+    ∷ refusal (versions last_version 0) (resize 0 49) 12 None
     -- no free slot but a worn one
-    ∷ refusal (versions 1 last_version) create 11 Nowhere
+    ∷ refusal (versions 1 last_version) create 11 None
     -- one version before the last
     ∷ result (versions 1 (last_version - 1)) create (1 ∷ [])
     ∷ []
@@ -318,12 +321,12 @@ bigger =
     ∷ blocks 995328 22621 ∷ blocks 995329 22627
     ∷ blocks 2883456 65535 ∷ blocks 2883457 65537
     -- a root of height 5 passes check 3, and its first child is no block of height 4; a root of height 6 does not pass
-    ∷ refusal (holding (inner 0 2 1 5 (1 ∷ 1 ∷ []) ∷ leaf 1 1 1 full ∷ [])) (tell_length 0) 8 (Slot 1)
-    ∷ refusal (holding (inner 0 2 1 6 (1 ∷ 1 ∷ []) ∷ leaf 1 1 1 full ∷ [])) (tell_length 0) 8 (Slot 0)
+    ∷ refusal (holding (inner 0 2 1 5 (1 ∷ 1 ∷ []) ∷ leaf 1 1 1 full ∷ [])) (tell_length 0) 8 (Some 1)
+    ∷ refusal (holding (inner 0 2 1 6 (1 ∷ 1 ∷ []) ∷ leaf 1 1 1 full ∷ [])) (tell_length 0) 8 (Some 0)
     -- a slot number above 65,535
-    ∷ refusal (holding (inner 0 2 1 1 (1 ∷ 65536 ∷ []) ∷ leaf 1 1 1 full ∷ [])) (tell_length 0) 8 (Slot 0)
+    ∷ refusal (holding (inner 0 2 1 1 (1 ∷ 65536 ∷ []) ∷ leaf 1 1 1 full ∷ [])) (tell_length 0) 8 (Some 0)
     ∷ []
 
 pub cases_hold : all right (joined (cases ∷ worked ∷ refusals ∷ links ∷ worn ∷ heads ∷ bigger ∷ [])) ≡ true
-unfolding cases worked bigger twelve refusals links worn heads tall rolled_back opened_on same_pieces head_of open_head block_at child_at below height_at byte_at piece handed handed_out moved pieces block_in line_in holding full twice sharing versions right played same_said true_of holds empty two beside one pick both part pasted joined range filter all of_last map_last only same_list zeros number bytes padded fours same_cell item_bytes header block_bytes encoded block height_of count_of own_slot version_of data_of children_of record_with record_of record_at state_of recorded_of state recorded sound_record last_version usable_slot slot_of at_slot content leaves cells root_of content_of leaves_of cells_of slots_of length_of held up leaves_for total_within total least_count most_count refusal_of at nowhere must first flaw used formed block_check is_root link_check and_then passing is_empty one_visit visit_row visit from_root roots closing_check closing pool_check put puts changed_by freed renewed changed changes lowest chain on_last roomy hang raised add_leaf add_leaves last_leaf share shares last_bytes longer keep_row keep lower shorter resized refuse_if after_check slots_in sized refuse_bad_record opened with_blob usable rooted changing refuse_worn refuse_full become create_on create_in new_blocks resize_on resize_in create_call resize_call after free_records wiped says created_said create_answer audit_said audit_answer changed_said change_answer length_said length_answer said_with finished_said finish_answer read_out perform reading blob_check length_on length_in refuse_past read_on read_in live audit_on audit_in write_on write_in length_call read_call audit_call write_call along refill refilled slot_number
+unfolding cases worked bigger twelve refusals links worn heads tall rolled_back opened_on same_pieces head_of open_head block_at child_at below height_at byte_at piece handed handed_out moved pieces block_in line_in holding full twice sharing versions right played same_said refused_with true_of holds empty two beside one pick both part pasted joined range filter all of_last map_last only same_list zeros number bytes padded fours same_cell item_bytes header block_bytes encoded block height_of count_of own_slot version_of data_of children_of record_with record_of record_at state_of recorded_of state recorded sound_record last_version usable_slot slot_of at_slot content leaves cells root_of content_of leaves_of cells_of slots_of length_of held up leaves_for total_within total least_count most_count number_of refusal_of at nowhere must first unless flaw used formed block_check is_root link_check and_then passing is_empty one_visit visit_row visit from_root roots closing_check closing pool_check put puts changed_by freed renewed changed changes lowest chain on_last roomy hang raised add_leaf add_leaves last_leaf share shares last_bytes longer keep_row keep lower shorter resized refuse_if after_check slots_in sized refuse_bad_record opened with_blob usable rooted changing refuse_worn refuse_full become create_on create_in new_blocks resize_on resize_in create_call resize_call after free_records wiped says value_said answer_of done_said said_with finish_answer read_out perform reading blob_check length_on length_in refuse_past read_on read_in live audit_on audit_in write_on write_in length_call read_call audit_call write_call along refill refilled slot_number
 cases_hold = refl

@@ -4,8 +4,8 @@ use Rattle.meaning.specs.Lists.{filter}
 use Rattle.meaning.specs.Shape.{leaves_for, total}
 use Rattle.meaning.specs.Change.{Store}
 use Rattle.meaning.specs.Calls.{after, after_wipe, length_call, read_call, show_call, audit_call, create_call, write_call, resize_call, delete_call}
-use Rattle.meaning.specs.Answers.{length_answer, audit_answer, create_answer, change_answer, finish_answer, leaf_answer, read_out, shown_part}
-use Rattle.meaning.specs.Answers.{Said, yields, refuses, length_said, audit_said, created_said, changed_said, finished_said, leaf_said, said_with}
+use Rattle.meaning.specs.Answers.{answer_of, finish_answer, leaf_answer, read_out, shown_part}
+use Rattle.meaning.specs.Answers.{Said, yields, refuses, value_said, done_said, leaf_said, said_with}
 use Rattle.meaning.specs.declared.Edition.{Edition}
 
 -- the calls but wipe, with any arguments
@@ -20,15 +20,15 @@ pub data Call : Type 0 where
 -- What each call says: the number and values of its answer, by the maps of Answers. A read also says the bytes that it puts in the lent output;
 -- show, beside where in the pool the leaf's data bytes start and how many they are, the bytes shown.
 unfoldable pub says : Edition → Store → Call → Said
-says e S create = created_said (create_answer (create_call e S.pool S.records))
-says e S audit = audit_said (audit_answer (audit_call e S.pool S.records))
-says e S (write r offset d) = changed_said (change_answer (write_call e S.pool S.records r offset d))
-says e S (resize r len) = changed_said (change_answer (resize_call e S.pool S.records r len))
-says e S (delete r) = changed_said (change_answer (delete_call e S.pool S.records r))
-says e S (tell_length r) = length_said (length_answer (length_call e S.pool S.records r))
+says e S create = value_said (answer_of (create_call e S.pool S.records))
+says e S audit = value_said (answer_of (audit_call e S.pool S.records))
+says e S (write r offset d) = done_said (answer_of (write_call e S.pool S.records r offset d))
+says e S (resize r len) = done_said (answer_of (resize_call e S.pool S.records r len))
+says e S (delete r) = done_said (answer_of (delete_call e S.pool S.records r))
+says e S (tell_length r) = value_said (answer_of (length_call e S.pool S.records r))
 says e S (read r offset size) =
     let o = read_call e S.pool S.records r offset size in
-    said_with (finished_said (finish_answer o)) (read_out o [])
+    said_with (done_said (finish_answer o)) (read_out o [])
 says e S (show_leaf r k) =
     let o = show_call e S.pool S.records r k in
     said_with (leaf_said (leaf_answer e o)) (shown_part e S.pool o)

@@ -1,24 +1,24 @@
 -- The walk: a block is visited, then its children in row order, each with all below it. The first fault ends it.
-use Rattle.std.specs.Prelude.{Bool, true, false, not, List, [], ◌∷◌, ℕ, zero, suc, ◌+◌, ◌*◌, min, leb, ltb, eqb, get_or, take, drop, replicate, set}
+use Rattle.std.specs.Prelude.{Bool, true, false, not, List, [], ◌∷◌, ℕ, zero, suc, ◌+◌, ◌*◌, min, leb, ltb, eqb, get_or, take, drop, replicate, set, Option, Some, None, Ok, Err}
+use Rattle.meaning.specs.declared.Reason.{Reason}
+use Rattle.meaning.specs.declared.Reason.TheVariants.{Spoiled, Moved, RolledBack, Ahead, WrongShape, Reintroduced}
 use Rattle.meaning.specs.Lists.{pick, both, zeros, same_list, range}
 use Rattle.meaning.specs.Bytes.{block, height_of, count_of, own_slot, version_of, data_of, children_of, state, recorded}
 use Rattle.meaning.specs.Tree.{Tree, Blob}
 use Rattle.meaning.specs.Shape.{least_count, most_count}
-use Rattle.meaning.specs.Refusals.{at, must, first}
+use Rattle.meaning.specs.Refusals.{at, must, first, unless, Checked}
 use Rattle.meaning.specs.declared.Edition.{Edition}
 use Rattle.meaning.specs.declared.Refusal.{Refusal}
 use Rattle.meaning.specs.declared.Role.{Role}
 use Rattle.meaning.specs.declared.Role.TheVariants.{Root, Child}
-use Rattle.meaning.specs.declared.Checked.{Checked}
-use Rattle.meaning.specs.declared.Checked.TheVariants.{Passed, Faulty}
 
--- check 2 of a block in slot s whose record has that version: the number of its fault, 0 where it passes
-unfoldable pub flaw : Edition → (version s : ℕ) → List ℕ → ℕ
+-- check 2 of a block in slot s whose record has that version: what is wrong, if anything is
+unfoldable pub flaw : Edition → (version s : ℕ) → List ℕ → Option Reason
 flaw e version s b =
-    pick (not (same_list (take 2 b) e.mark)) 4
-    (pick (not (eqb (own_slot b) s)) 5
-    (pick (ltb (version_of b) version) 6
-    (pick (ltb version (version_of b)) 7 0)))
+    pick (not (same_list (take 2 b) e.mark)) (Some Spoiled)
+    (pick (not (eqb (own_slot b) s)) (Some Moved)
+    (pick (ltb (version_of b) version) (Some RolledBack)
+    (pick (ltb version (version_of b)) (Some Ahead) None)))
 
 -- bytes of the payload that a count uses
 unfoldable pub used : (h count : ℕ) → ℕ
@@ -36,8 +36,7 @@ formed e h root edge b =
 -- checks 2 and 3, which name the visited slot
 unfoldable pub block_check : Edition → (h : ℕ) → (root edge : Bool) → (version s : ℕ) → List ℕ → Checked
 block_check e h root edge version s b =
-    let n = flaw e version s b in
-    must (eqb n 0) (at n s) (must (formed e h root edge b) (at 8 s) Passed)
+    unless (flaw e version s b) s (must (formed e h root edge b) (at WrongShape s) (Ok tt))
 
 -- a block is visited as a root, or as a child of its parent
 unfoldable pub is_root : Role → Bool
@@ -46,10 +45,10 @@ is_root (Child p) = false
 
 -- check 1, for a child slot; flags say which slots are already visited
 unfoldable pub link_check : (N : ℕ) → (R seen : List ℕ) → Role → ℕ → Checked
-link_check N R seen Root s = Passed
+link_check N R seen Root s = Ok tt
 link_check N R seen (Child p) s =
-    must (both (ltb s N) (both (not (eqb (state R s) 2)) (eqb (get_or seen s 0) 0))) (at 8 p)
-    (must (eqb (state R s) 1) (at 9 s) Passed)
+    must (both (ltb s N) (both (not (eqb (state R s) 2)) (eqb (get_or seen s 0) 0))) (at WrongShape p)
+    (must (eqb (state R s) 1) (at Reintroduced s) (Ok tt))
 
 -- what a walk finds: the first fault, or a value and the slots visited, a flag for each slot
 pub data Found (A : Type 0) : Type 0 where
@@ -61,8 +60,8 @@ and_then (fault r) k = fault r
 and_then (fine a seen) k = k a seen
 
 unfoldable pub passing : {A : Type 0} → Checked → Found A → Found A
-passing Passed f = f
-passing (Faulty r) f = fault r
+passing (Ok v) f = f
+passing (Err r) f = fault r
 
 unfoldable pub is_empty : List ℕ → Bool
 is_empty [] = true
@@ -112,12 +111,12 @@ module _ (e : Edition) (N : ℕ) (P R : List ℕ) where
   -- one slot of the closing pass: a free slot with a non-zero byte is 9, a part not visited is 8
   unfoldable pub closing_check : (seen : List ℕ) → ℕ → Checked
   closing_check seen s =
-      must (pick (eqb (state R s) 0) (zeros (block e P s)) true) (at 9 s)
-      (must (pick (eqb (state R s) 1) (eqb (get_or seen s 0) 1) true) (at 8 s) Passed)
+      must (pick (eqb (state R s) 0) (zeros (block e P s)) true) (at Reintroduced s)
+      (must (pick (eqb (state R s) 1) (eqb (get_or seen s 0) 1) true) (at WrongShape s) (Ok tt))
 
   -- through these slots
   unfoldable pub closing : List ℕ → (seen : List ℕ) → Checked
-  closing [] seen = Passed
+  closing [] seen = Ok tt
   closing (s ∷ ss) seen = first (closing_check seen s) (closing ss seen)
 
   -- the pool check: the walks from all roots, then the closing pass through all slots, rising

@@ -1,9 +1,9 @@
-// The types that document 01's definitions and the code share: an edition, a refusal, the answers.
+// The types that document 01's definitions and the code share: an edition, and why a call is refused. A call answers its value or a refusal.
 #![tactic(auto)]
 
 ghost use Rattle.std.specs.Prelude.{◌≡◌};
 ghost use Rattle.meaning.specs.Edition.{one};
-ghost use Rattle.meaning.specs.Refusals.{refusal_of, at, nowhere};
+ghost use Rattle.meaning.specs.Refusals.{number_of, refusal_of, at, nowhere};
 
 // The numbers that an edition fixes.
 #[derive(Clone, Copy, Drop)]
@@ -36,42 +36,84 @@ pub fn edition_one() -> Edition
     }
 }
 
-// The slot that a refusal names.
-#[derive(Clone, Copy, Drop)]
-pub enum Named {
-    Nowhere,
-    Slot(u64),
+// Why a call is refused, in the order of document 01's table.
+#[derive(Clone, Copy, Debug, Drop, Eq, PartialEq)]
+pub enum Reason {
+    // Pool or records are not so long as a number of slots.
+    WrongLengths,
+    // A record breaks its layout.
+    BadRecord,
+    // The named root is none.
+    NotARoot,
+    // A block has another mark.
+    Spoiled,
+    // A block has another slot's number.
+    Moved,
+    // A block is older than its record.
+    RolledBack,
+    // A block is newer than its record.
+    Ahead,
+    // A block is not as its place in the blob asks.
+    WrongShape,
+    // A slot is free and its block isn't empty.
+    Reintroduced,
+    // Offset and size, or the leaf, lie past the end.
+    OutOfRange,
+    // Too few free slots are usable.
+    NoRoom,
+    // A block of the blob is at the last version.
+    WornOut,
 }
 
-// Why a call is refused: document 01's number, and the named slot.
-#[derive(Clone, Copy, Drop)]
-pub struct Refusal {
-    pub number: u64,
-    pub named: Named,
-}
-
-// The one place where a refusal is made.
-pub fn refuse(number: u64, named: Named) -> Refusal
-    ensures { result ≡ refusal_of number named }
-{
-    Refusal {
-        number: number,
-        named: named,
+impl Reason {
+    // Document 01's number.
+    #[tactic(auto, unfolding(crate::specs::Refusals::number_of))]
+    pub fn number(self) -> u64
+        ensures { result ≡ number_of self }
+    {
+        match self {
+            Reason::WrongLengths => 1,
+            Reason::BadRecord => 2,
+            Reason::NotARoot => 3,
+            Reason::Spoiled => 4,
+            Reason::Moved => 5,
+            Reason::RolledBack => 6,
+            Reason::Ahead => 7,
+            Reason::WrongShape => 8,
+            Reason::Reintroduced => 9,
+            Reason::OutOfRange => 10,
+            Reason::NoRoom => 11,
+            Reason::WornOut => 12,
+        }
     }
 }
 
-// A refusal that names a slot.
-pub fn refuse_at(number: u64, slot: usize) -> Refusal
-    ensures { result ≡ at number slot }
+// A refusal: why, and the slot that it names, if it names one.
+#[derive(Clone, Copy, Debug, Drop, Eq, PartialEq)]
+pub struct Refusal {
+    pub reason: Reason,
+    pub named: Option<u64>,
+}
+
+// The one place where a refusal is made.
+pub fn refuse(reason: Reason, named: Option<u64>) -> Refusal
+    ensures { result ≡ refusal_of reason named }
 {
-    refuse(number, Named::Slot(slot as u64))
+    Refusal { reason, named }
+}
+
+// A refusal that names a slot.
+pub fn refuse_at(reason: Reason, slot: usize) -> Refusal
+    ensures { result ≡ at reason slot }
+{
+    refuse(reason, Some(slot as u64))
 }
 
 // A refusal that names no slot.
-pub fn refuse_nowhere(number: u64) -> Refusal
-    ensures { result ≡ nowhere number }
+pub fn refuse_nowhere(reason: Reason) -> Refusal
+    ensures { result ≡ nowhere reason }
 {
-    refuse(number, Named::Nowhere)
+    refuse(reason, None)
 }
 
 // A block is visited as a root, or as a child of its parent.
@@ -79,53 +121,4 @@ pub fn refuse_nowhere(number: u64) -> Refusal
 pub enum Role {
     Root,
     Child(usize),
-}
-
-// What a check answers.
-#[derive(Clone, Copy, Drop)]
-pub enum Checked {
-    Passed,
-    Faulty(Refusal),
-}
-
-// What length answers.
-#[derive(Clone, Copy, Drop)]
-pub enum Length {
-    Is(u64),
-    Refused(Refusal),
-}
-
-// What the audit answers: the count of live slots.
-#[derive(Clone, Copy, Drop)]
-pub enum Audit {
-    Live(u64),
-    Refused(Refusal),
-}
-
-// What create answers: the new blob's root.
-#[derive(Clone, Copy, Drop)]
-pub enum Created {
-    At(u64),
-    Refused(Refusal),
-}
-
-// What write, resize and delete answer.
-#[derive(Clone, Copy, Drop)]
-pub enum Changed {
-    Done,
-    Refused(Refusal),
-}
-
-// What read and wipe answer.
-#[derive(Clone, Copy, Drop)]
-pub enum Finished {
-    Done,
-    Refused(Refusal),
-}
-
-// Where a leaf's data bytes lie in the pool: their start and how many they are.
-#[derive(Clone, Copy, Drop)]
-pub enum Leaf {
-    At(usize, usize),
-    Refused(Refusal),
 }

@@ -1,21 +1,22 @@
 // What an old block holds that gets more, drawn without writing to the store: the height and count of the block, and the payload in a lent part.
-ghost use Rattle.std.specs.Prelude.{◌≡◌, map, suc, ◌+◌, ◌-◌, ◌*◌, ◌^◌, ◌≤◌, ◌<◌, length};
-ghost use Rattle.meaning.specs.Lists.{joined, bytes, padded, pasted};
+ghost use Rattle.std.specs.Prelude.{◌≡◌, suc, ◌^◌, ◌≤◌, ◌<◌, length};
+ghost use Rattle.meaning.specs.Lists.{padded};
 ghost use Rattle.meaning.specs.Edition.{Proper};
 ghost use Rattle.meaning.specs.Bytes.{count_of, data_of, children_of};
 ghost use Rattle.meaning.specs.Shape.{most_count};
 ghost use Rattle.meaning.specs.Resize.{share};
 ghost use Rattle.laws.proofs.Codec.{items_of};
-ghost use Rattle.laws_resize.specs.growth.Forms.{every, bulk, room, space, places, grown_row};
+ghost use Rattle.laws_resize.specs.growth.Forms.{grown_row};
 ghost use Rattle.plan_slot.specs.payload.{Draws};
 ghost use Rattle.plan_longer.specs.fresh.{Grows};
 
+use crate::fresh;
 use crate::fresh::Growth;
 use base_slot::fields;
 use meaning::Edition;
 use plan_slot::payload;
 use plan_slot::payload::Drawn;
-use plan_tree::{edge, subtrees};
+use plan_tree::edge;
 
 // An old leaf of a blob that gets longer: it fills with zeros.
 fn grown_leaf(e: Edition, long: usize, block: &[u8], payload: &mut [u8], first: usize) -> Drawn
@@ -30,29 +31,6 @@ fn grown_leaf(e: Edition, long: usize, block: &[u8], payload: &mut [u8], first: 
         height: 0,
         count: filled as u8,
     }
-}
-
-// New children of height `below`, put behind those that an old block on the right edge has; answers how many.
-fn put_beside(
-    e: Edition,
-    g: Growth,
-    free: &[u32],
-    payload: &mut [u8],
-    count: usize,
-    below: usize,
-) -> usize
-    requires proper { Proper e }
-    requires grows { Grows e g }
-    requires payload_len { (length payload.old ≡ e.leaf) × (count ≤ e.fan) × (e.fan ^ below ≤ 2 ^ 50) }
-    ensures value { (result ≡ places e.fan g.more (e.fan - count) below (room e.fan below g.leaves)) × (result ≤ e.fan - count) }
-    ensures payload_after { payload.new ≡ pasted (4 * count) (joined (map (bytes 4) (every free.now (bulk e.fan below) result (space e.fan below g.leaves)))) payload.old }
-{
-    let room = edge::room(e.fan, below, g.leaves);
-    let space = edge::space(e.fan, below, g.leaves);
-    let c = subtrees::places(e.fan, g.more, e.fan - count, below, room);
-    let step = subtrees::bulk(e.fan, below);
-    payload::put_slots(payload, count, free, space, step, c);
-    c
 }
 
 // An old inner block, one higher than `below`, of a blob that gets longer: it gets new children.
@@ -72,7 +50,9 @@ fn grown_inner(
 {
     let count = fields::count_of(block);
     payload::copy_payload(payload, block, 4 * count);
-    let c = put_beside(e, g, free, payload, count, below);
+    let room = edge::room(e.fan, below, g.leaves);
+    let space = edge::space(e.fan, below, g.leaves);
+    let c = fresh::put_children(e, g, free, payload, count, below, room, space);
     Drawn {
         height: (below + 1) as u8,
         count: (count + c) as u8,

@@ -1,8 +1,9 @@
 // What a new block of a blob that gets longer holds, and a root that got higher, drawn without writing to the store: the height and count of the block,
 // and the payload in a lent part.
-ghost use Rattle.std.specs.Prelude.{◌≡◌, suc, ◌+◌, ◌-◌, ◌^◌, ◌≤◌, ◌<◌, length};
+ghost use Rattle.std.specs.Prelude.{◌≡◌, map, suc, ◌+◌, ◌-◌, ◌*◌, ◌^◌, ◌≤◌, ◌<◌, length};
+ghost use Rattle.meaning.specs.Lists.{joined, bytes, pasted};
 ghost use Rattle.meaning.specs.Edition.{Proper};
-ghost use Rattle.laws_resize.specs.growth.Forms.{fresh_cell, above, new_bytes};
+ghost use Rattle.laws_resize.specs.growth.Forms.{every, bulk, places, fresh_cell, above, new_bytes};
 ghost use Rattle.plan_slot.specs.payload.{Draws};
 ghost use Rattle.plan_longer.specs.fresh.{Grows};
 
@@ -18,6 +19,30 @@ pub struct Growth {
     pub length: usize,
     pub leaves: usize,
     pub more: usize,
+}
+
+// New children of height `below` behind the first `at` of a block's, as many as fit of those that the new leaves from j on need; the first is the new
+// block k. Answers how many.
+pub fn put_children(
+    e: Edition,
+    g: Growth,
+    free: &[u32],
+    payload: &mut [u8],
+    at: usize,
+    below: usize,
+    j: usize,
+    k: usize,
+) -> usize
+    requires proper { Proper e }
+    requires grows { Grows e g }
+    requires payload_len { (length payload.old ≡ e.leaf) × (at ≤ e.fan) × (e.fan ^ below ≤ 2 ^ 50) × (k ≤ 2 ^ 52) }
+    ensures value { (result ≡ places e.fan g.more (e.fan - at) below j) × (result ≤ e.fan - at) }
+    ensures payload_after { payload.new ≡ pasted (4 * at) (joined (map (bytes 4) (every free.now (bulk e.fan below) result k))) payload.old }
+{
+    let c = subtrees::places(e.fan, g.more, e.fan - at, below, j);
+    let step = subtrees::bulk(e.fan, below);
+    payload::put_slots(payload, at, free, k, step, c);
+    c
 }
 
 // A new inner block, one higher than `below`, that is made k-th and whose first leaf is the new leaf j.
@@ -36,9 +61,7 @@ fn fresh_inner(
     ensures { Draws e (fresh_cell e.fan g.more (new_bytes e g.length g.leaves free.now) free.now (suc below) j k) result payload.new }
 {
     runs::clear(payload);
-    let c = subtrees::places(e.fan, g.more, e.fan, below, j);
-    let step = subtrees::bulk(e.fan, below);
-    payload::put_slots(payload, 0, free, k + 1, step, c);
+    let c = put_children(e, g, free, payload, 0, below, j, k + 1);
     Drawn {
         height: (below + 1) as u8,
         count: c as u8,
@@ -88,9 +111,7 @@ pub fn draw_above(
 {
     runs::clear(payload);
     payload::put_slots(payload, 0, free, b, 0, 1);
-    let c = subtrees::places(e.fan, g.more, e.fan - 1, h, j);
-    let step = subtrees::bulk(e.fan, h);
-    payload::put_slots(payload, 1, free, b + 1, step, c);
+    let c = put_children(e, g, free, payload, 1, h, j, b + 1);
     Drawn {
         height: (h + 1) as u8,
         count: (c + 1) as u8,

@@ -19,6 +19,7 @@ ghost use Rattle.plan_longer.specs.Plans.{Here, grow_plan};
 
 use crate::fresh::Growth;
 use crate::towers::Tower;
+use check_survey::marks::Notes;
 use meaning::Edition;
 use plan_slot::turn::Turn;
 
@@ -30,8 +31,7 @@ pub fn plan_slot(
     pool: &[u8],
     records: &[u8],
     free: &[u32],
-    heights: &[u8],
-    firsts: &[u32],
+    notes: Notes,
     kept: &[u8],
     payload: &mut [u8],
     root: usize,
@@ -42,16 +42,16 @@ pub fn plan_slot(
     requires grows { Grows e g }
     requires towers { Towers e g t }
     requires root_block { RootBlock e g t kept.now }
-    requires here { Here e g pool.now records.now heights.now firsts.now root i }
+    requires here { Here e g pool.now records.now notes.heights.now notes.firsts.now root i }
     requires payload_len { length payload.old ≡ e.leaf }
-    ensures payload_after { turned e records.now i result payload.new ≡ grow_plan e g t pool.now records.now free.now heights.now firsts.now kept.now root below i }
+    ensures payload_after { turned e records.now i result payload.new ≡ grow_plan e g t pool.now records.now free.now notes.entry.heights.now notes.entry.firsts.now kept.now root below i }
     ensures rises { Rises result (recorded records.now i) }
 {
     if i == root {
         return enlarged::plan_root(e, g, t, free, kept, payload);
     }
-    if heights[i] == 0 {
-        return taken::plan_free(e, g, t, records, free, kept, payload, i, below);
+    match notes.height_at(i) {
+        None => taken::plan_free(e, g, t, records, free, kept, payload, i, below),
+        Some(h) => enlarged::plan_old(e, g, pool, free, notes, payload, i, h),
     }
-    enlarged::plan_old(e, g, pool, free, heights, firsts, payload, i)
 }

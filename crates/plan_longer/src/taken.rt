@@ -41,5 +41,5 @@ pub fn plan_free(
         return Turn::Stays;
     }
     let d = added::draw_new(e, g, t, free, kept, payload, below);
-    Turn::Takes(d.height, d.count)
+    Turn::Takes(d)
 }

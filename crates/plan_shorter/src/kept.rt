@@ -33,5 +33,5 @@ pub fn plan_kept(
     ensures by_index_2 { (v : ℕ) → v < last_version → Rises result v }
 {
     let d = trimmed::draw_cut(e, c.length, c.leaves, row, payload, h, first);
-    turn::renewed(old, d.height, d.count)
+    turn::renewed(old, d)
 }

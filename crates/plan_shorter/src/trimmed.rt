@@ -7,7 +7,6 @@ ghost use Rattle.laws.proofs.Codec.{items_of};
 ghost use Rattle.laws_resize.specs.growth.Cuts.{cut_row};
 ghost use Rattle.plan_slot.specs.payload.{Draws};
 
-use base_bytes::number;
 use base_slot::fields;
 use meaning::Edition;
 use plan_slot::payload;
@@ -22,7 +21,7 @@ fn cut_leaf(e: Edition, short: usize, block: &[u8], payload: &mut [u8], first: u
     ensures { Draws e (record { height = 0; items = cut_row e short 0 first (data_of block.now) }) result payload.new }
 {
     let count = fields::count_of(block);
-    let kept = number::least(count, payload::share_of(e, short, first));
+    let kept = count.min(payload::share_of(e, short, first));
     payload::copy_payload(payload, block, kept);
     Drawn {
         height: 0,

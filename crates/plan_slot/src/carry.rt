@@ -34,26 +34,24 @@ pub fn carry_out(
     match turn {
         Turn::Stays => {}
         Turn::Goes => change::put_free(e, pool, records, scratch, slot, version),
-        Turn::Takes(height, count) => change::put_cell(
+        Turn::Takes(drawn) => change::put_cell(
             e,
             pool,
             records,
             scratch,
             slot,
-            height,
-            count,
+            drawn,
             payload,
             1,
             version + 1,
         ),
-        Turn::Renews(height, count) => change::put_cell(
+        Turn::Renews(drawn) => change::put_cell(
             e,
             pool,
             records,
             scratch,
             slot,
-            height,
-            count,
+            drawn,
             payload,
             state,
             version + 1,

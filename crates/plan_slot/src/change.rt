@@ -1,14 +1,25 @@
-// What a changing call stores of one slot: its block, then its record. Nothing else writes to pool or records, wipe and write apart.
-ghost use Rattle.std.specs.Prelude.{◌≡◌, ◌^◌, ◌≤◌, ◌<◌, length, replicate};
+// What a changing call stores of one slot: its block, then its record. Nothing else writes to pool or records, apart from wipe and the stretches of a
+// write.
+ghost use Rattle.std.specs.Prelude.{◌≡◌, ◌+◌, ◌*◌, ◌^◌, ◌≤◌, ◌<◌, length, replicate};
 ghost use Rattle.meaning.specs.Edition.{Proper};
 ghost use Rattle.meaning.specs.Bytes.{block_bytes, record_of};
 ghost use Rattle.meaning.specs.Change.{put};
 ghost use Rattle.plan_slot.specs.change.Places.{Places};
 
+use crate::payload::Drawn;
 use base_block::build;
 use base_bytes::runs;
 use base_slot::{record, slot};
 use meaning::Edition;
+
+// A slot's record becomes one of that state and version.
+pub fn put_record(records: &mut [u8], slot: usize, state: u8, version: u64)
+    requires { 12 * slot + 12 ≤ length records.old }
+    ensures { records.new ≡ put 12 slot (record_of state version) records.old }
+{
+    let line = record::build(state, 0, version);
+    slot::store_record(records, slot, &line);
+}
 
 // Stores a slot's block, as it stands in the lent scratch, and its record.
 fn store_slot(
@@ -25,8 +36,7 @@ fn store_slot(
     ensures records_after { records.new ≡ put 12 slot (record_of state version) records.old }
 {
     slot::store_block(e, pool, slot, scratch);
-    let line = record::build(state, 0, version);
-    slot::store_record(records, slot, &line);
+    put_record(records, slot, state, version);
 }
 
 // A slot holds a new cell: its block and its record at that version.
@@ -36,8 +46,7 @@ pub fn put_cell(
     records: &mut [u8],
     scratch: &mut [u8],
     slot: usize,
-    height: u8,
-    count: u8,
+    drawn: Drawn,
     payload: &[u8],
     state: u8,
     version: u64,
@@ -45,10 +54,18 @@ pub fn put_cell(
     requires proper { Proper e }
     requires places { Places e pool.old records.old scratch.old slot }
     requires slot_bound { (slot < 2 ^ 32) × (length payload.now ≤ e.leaf) }
-    ensures pool_after { pool.new ≡ put e.size slot (block_bytes e height count slot version payload.now) pool.old }
+    ensures pool_after { pool.new ≡ put e.size slot (block_bytes e drawn.height drawn.count slot version payload.now) pool.old }
     ensures records_after { records.new ≡ put 12 slot (record_of state version) records.old }
 {
-    build::build_block(e, scratch, height, count, slot as u32, version, payload);
+    build::build_block(
+        e,
+        scratch,
+        drawn.height,
+        drawn.count,
+        slot as u32,
+        version,
+        payload,
+    );
     store_slot(e, pool, records, scratch, slot, state, version);
 }
 

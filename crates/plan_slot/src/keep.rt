@@ -24,10 +24,8 @@ fn left_slot(e: Edition, pool: &[u8], slot: usize, steps: usize) -> usize
     ensures { result ≡ first_below e pool.now slot steps }
 {
     let mut at = slot;
-    let mut i = 0;
-    while i < steps {
+    for _ in 0..steps {
         at = visit::child_of(e, pool, at, 0);
-        i += 1;
     }
     at
 }

@@ -12,7 +12,7 @@ use base_slot::usable;
 use meaning::Edition;
 
 // A block's height and count.
-#[derive(Clone, Copy, Drop)]
+#[derive(Clone, Copy, Drop, Eq, PartialEq)]
 pub struct Drawn {
     pub height: u8,
     pub count: u8,
@@ -31,12 +31,11 @@ pub fn put_slots(
     requires from_bound { (from ≤ 2 ^ 52) × (step ≤ 2 ^ 52) }
     ensures { payload.new ≡ pasted (4 * at) (joined (map (bytes 4) (every free.now step count from))) payload.old }
 {
-    let mut i = 0;
     let mut k = from;
-    while i < count {
-        number::put_u32(payload, 4 * (at + i), usable::nth(free, k));
+    for i in 0..count {
+        let slot = usable::nth(free, k);
+        number::put::<4>(payload, 4 * (at + i), slot as u64);
         k += step;
-        i += 1;
     }
 }
 
@@ -57,9 +56,5 @@ pub fn share_of(e: Edition, len: usize, i: usize) -> usize
     ensures { (result ≡ share e len i) × (result ≤ e.leaf) }
 {
     let start = e.leaf * i;
-    if len <= start {
-        return 0;
-    }
-    let left = len - start;
-    if left < e.leaf { left } else { e.leaf }
+    e.leaf.min(len.saturating_sub(start))
 }

@@ -4,6 +4,7 @@ ghost use Rattle.meaning.specs.Lists.{pick, both};
 ghost use Rattle.meaning.specs.Bytes.{height_of, count_of};
 ghost use Rattle.plan_slot.specs.turn.{turns};
 
+use crate::payload::Drawn;
 use base_slot::fields;
 
 // A slot stays as it is; or its block goes; or it is newly taken, or renewed, by a block of that height and count, whose payload is lent beside.
@@ -11,22 +12,24 @@ use base_slot::fields;
 pub enum Turn {
     Stays,
     Goes,
-    Takes(u8, u8),
-    Renews(u8, u8),
+    Takes(Drawn),
+    Renews(Drawn),
 }
 
 // A live block stays as it is if its height and its count do. That its payload does then too is the planner's to know.
-pub fn renewed(block: &[u8], height: u8, count: u8) -> Turn
+pub fn renewed(block: &[u8], drawn: Drawn) -> Turn
     requires { 16 ≤ length block.now }
-    ensures { result ≡ pick (both (eqb height (height_of block.now)) (eqb count (count_of block.now))) Turn.Stays (Turn.Renews height count) }
+    ensures { result ≡ pick (both (eqb drawn.height (height_of block.now)) (eqb drawn.count (count_of block.now))) Turn.Stays (Turn.Renews drawn) }
 {
-    if height as usize != fields::height_of(block) {
-        return Turn::Renews(height, count);
+    let held = Drawn {
+        height: fields::height_of(block) as u8,
+        count: fields::count_of(block) as u8,
+    };
+    if drawn == held {
+        Turn::Stays
+    } else {
+        Turn::Renews(drawn)
     }
-    if count as usize != fields::count_of(block) {
-        return Turn::Renews(height, count);
-    }
-    Turn::Stays
 }
 
 // How many slots a turn changes: one, or none.
@@ -36,7 +39,7 @@ pub fn changes(turn: Turn) -> usize
     match turn {
         Turn::Stays => 0,
         Turn::Goes => 1,
-        Turn::Takes(_, _) => 1,
-        Turn::Renews(_, _) => 1,
+        Turn::Takes(_) => 1,
+        Turn::Renews(_) => 1,
     }
 }

@@ -11,14 +11,9 @@ pub struct Cut {
 }
 
 // Whether a block of that height and first leaf, which is not the root, goes: past the cut, or on the left edge where the root comes down.
+#[tactic(auto, unfolding(crate::specs::cuts::gone_at, meaning::specs::Lists::both, meaning::specs::Lists::pick))]
 pub fn is_gone(c: Cut, h: usize, first: usize) -> bool
     ensures { result ≡ gone_at c h first }
 {
-    if c.leaves <= first {
-        return true;
-    }
-    if first != 0 {
-        return false;
-    }
-    c.top <= h
+    c.leaves <= first || (first == 0 && c.top <= h)
 }

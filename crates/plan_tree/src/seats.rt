@@ -18,14 +18,15 @@ pub fn locate(fan: usize, h: usize, p: usize) -> Seat
     ensures sits { Sits result (locate fan h p) }
     ensures first_le_p { (result.first ≤ p) × (result.height ≤ h) }
 {
-    let mut height = h;
     let mut left = p;
     let mut first = 0;
-    while height != 0 {
+    for height in (0..h).rev() {
         if left == 0 {
-            return Seat { height, first };
+            return Seat {
+                height: height + 1,
+                first,
+            };
         }
-        height -= 1;
         let size = subtrees::bulk(fan, height);
         first += (left - 1) / size * subtrees::power(fan, height);
         left = (left - 1) % size;
@@ -53,9 +54,7 @@ pub fn edge_seat(fan: usize, h: usize, n: usize, p: usize) -> Seat
     ensures sits { Sits result (seat fan h n p) }
     ensures first_bound { (result.first ≤ fan ^ h + p) × (result.height ≤ h) }
 {
-    let mut height = h;
-    while height != 0 {
-        height -= 1;
+    for height in (0..h).rev() {
         let below = edge::space(fan, height, n);
         if below <= p {
             return in_row(fan, height, edge::room(fan, height, n), p - below);

@@ -2,15 +2,16 @@
 ghost use Rattle.std.specs.Prelude.{◌≡◌, ◌^◌, suc, ◌≤◌, ◌<◌};
 ghost use Rattle.laws_resize.specs.growth.Forms.{bulk, places};
 
-// The fan-out to the power h.
+// The fan-out to the power h. The library's `pow` takes a `u32`, and where the fan-out is 1 the contract sets h no bound.
 pub fn power(fan: usize, h: usize) -> usize
     requires { (1 ≤ fan) × (fan ^ h ≤ 2 ^ 50) }
     ensures { result ≡ fan ^ h }
 {
-    if h == 0 {
-        return 1;
+    let mut w = 1;
+    for _ in 0..h {
+        w *= fan;
     }
-    fan * power(fan, h - 1)
+    w
 }
 
 // The blocks of a full subtree of height h.
@@ -19,10 +20,8 @@ pub fn bulk(fan: usize, h: usize) -> usize
     ensures { (result ≡ bulk fan h) × (result ≤ 2 ^ 51) }
 {
     let mut r = 1;
-    let mut i = 0;
-    while i < h {
+    for _ in 0..h {
         r = 1 + fan * r;
-        i += 1;
     }
     r
 }
@@ -33,6 +32,7 @@ pub fn level_of(fan: usize, h: usize, top: usize, number: usize) -> usize
     requires h_bound { (bulk fan h ≤ number) × (number < bulk fan top) }
     ensures { (h ≤ result) × (result < top) × (bulk fan result ≤ number) × (number < bulk fan (suc result)) }
 {
+    // Not a range: the contract alone says that there is an end, and a level's blocks come from those of the one before.
     let mut level = h;
     let mut next = bulk(fan, h + 1);
     while next <= number {
@@ -47,10 +47,6 @@ pub fn places(fan: usize, m: usize, c: usize, h: usize, j: usize) -> usize
     requires { (2 ≤ fan) × (fan ^ h ≤ 2 ^ 50) × (m ≤ 2 ^ 50) }
     ensures { (result ≡ places fan m c h j) × (result ≤ c) }
 {
-    if m <= j {
-        return 0;
-    }
     let each = power(fan, h);
-    let needed = (m - j + (each - 1)) / each;
-    if needed < c { needed } else { c }
+    c.min(m.saturating_sub(j).div_ceil(each))
 }

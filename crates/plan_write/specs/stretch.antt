@@ -1,5 +1,5 @@
 -- What a write makes of each slot: which stretch of a leaf's bytes it touches, whether those bytes differ, and the change of the slot.
-use Rattle.std.specs.Prelude.{◌≡◌, Bool, true, false, List, [], ◌∷◌, ℕ, ◌+◌, ◌-◌, ◌*◌, ◌≤◌, ◌<◌, min, eqb, length, get_or}
+use Rattle.std.specs.Prelude.{◌≡◌, true, List, [], ◌∷◌, Option, None, Some, ℕ, ◌+◌, ◌-◌, ◌*◌, ◌≤◌, ◌<◌, min, eqb, length, get_or}
 use Rattle.meaning.specs.declared.Edition.{Edition}
 use Rattle.meaning.specs.Lists.{pick, part, pasted, same_list}
 use Rattle.meaning.specs.Bytes.{Cell, block, count_of, data_of, state, recorded, last_version}
@@ -8,24 +8,20 @@ use Rattle.laws.proofs.Numbers.{OfBytes}
 use Rattle.laws.proofs.Inversions.{Sound}
 use Rattle.plan_write.specs.declared.stretch.Stretch.{Stretch}
 
--- no stretch
-abbrev pub nothing : Stretch
-nothing = record { within = 0; from = 0; count = 0 }
-
 -- of held bytes that begin at base, those that size bytes from the offset on touch
 unfoldable pub touched_by : (base held offset size : ℕ) → Stretch
 touched_by base held offset size =
     record { within = offset - base; from = base - offset; count = min (held - (offset - base)) (size - (base - offset)) }
 
--- the stretch of leaf block b that changes, if d is put at the offset and the block's first byte is that of leaf number first
-unfoldable pub differing : Edition → (b d : List ℕ) → (first offset : ℕ) → Stretch
+-- the stretch of leaf block b that changes, if d is put at the offset and the block's first byte is that of leaf number first; none, if its bytes stay
+unfoldable pub differing : Edition → (b d : List ℕ) → (first offset : ℕ) → Option Stretch
 differing e b d first offset =
     let t = touched_by (e.leaf * first) (count_of b) offset (length d) in
-    pick (same_list (part (16 + t.within) t.count b) (part t.from t.count d)) nothing t
+    pick (same_list (part (16 + t.within) t.count b) (part t.from t.count d)) None (Some t)
 
 -- the stretch of slot s that changes, by the rows of heights and firsts; a leaf of the blob has 1 in the row of heights
-unfoldable pub plan_of : Edition → (P heights firsts d : List ℕ) → (offset s : ℕ) → Stretch
-plan_of e P heights firsts d offset s = pick (eqb (get_or heights s 0) 1) (differing e (block e P s) d (get_or firsts s 0) offset) nothing
+unfoldable pub plan_of : Edition → (P heights firsts d : List ℕ) → (offset s : ℕ) → Option Stretch
+plan_of e P heights firsts d offset s = pick (eqb (get_or heights s 0) 1) (differing e (block e P s) d (get_or firsts s 0) offset) None
 
 -- a leaf's bytes with such a stretch put
 unfoldable pub stretched : Stretch → (d row : List ℕ) → List ℕ
@@ -36,8 +32,9 @@ abbrev pub leaf_cell : List ℕ → Cell
 leaf_cell row = record { height = 0; items = row }
 
 -- what slot s becomes, if that stretch of it changes
-unfoldable pub put_by : Edition → (P R d : List ℕ) → ℕ → Stretch → List Change
-put_by e P R d s t = pick (eqb t.count 0) [] (renewed e R (state R s) s (leaf_cell (stretched t d (data_of (block e P s)))) ∷ [])
+unfoldable pub put_by : Edition → (P R d : List ℕ) → ℕ → Option Stretch → List Change
+put_by e P R d s None = []
+put_by e P R d s (Some t) = renewed e R (state R s) s (leaf_cell (stretched t d (data_of (block e P s)))) ∷ []
 
 -- what slot s becomes
 unfoldable pub write_plan : Edition → (P R heights firsts d : List ℕ) → (offset s : ℕ) → List Change
@@ -49,16 +46,10 @@ pub record Changing (b d : List ℕ) (t : Stretch) : Type 0 where
   pub source : t.from + t.count ≤ length d
   pub bytes : OfBytes b
 
--- bytes that were compared and found to differ were read: they are bytes
-pub record Compared (same : Bool) (b : List ℕ) : Type 0 where
-  pub bytes : same ≡ false → OfBytes b
-
--- so much is known of a stretch of a leaf's block, and of one of a slot, if it changes
-pub record Chosen (b d : List ℕ) (t : Stretch) : Type 0 where
-  pub so : (t.count ≡ 0 → ⊥) → Changing b d t
-
+-- so much is known of a stretch of a slot that changes
 pub record ChosenAt (e : Edition) (P hs d : List ℕ) (s : ℕ) (t : Stretch) : Type 0 where
-  pub so : (t.count ≡ 0 → ⊥) → (get_or hs s 0 ≡ 1) × Changing (block e P s) d t
+  pub leaf : get_or hs s 0 ≡ 1
+  pub changing : Changing (block e P s) d t
 
 -- a slot has its block in the pool and its places in the rows
 pub record Place (e : Edition) (P hs fs : List ℕ) (s : ℕ) : Type 0 where

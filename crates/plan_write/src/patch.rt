@@ -8,7 +8,9 @@ ghost use Rattle.plan_write.specs.stretch.{write_plan, Place, Writable};
 
 use crate::stretch;
 use base_slot::{record, slot};
+use check_survey::marks::Notes;
 use meaning::Edition;
+use plan_slot::change;
 
 // The version that a slot gets when it changes: its record's and one more.
 fn next_version(records: &[u8], i: usize) -> u64
@@ -24,8 +26,7 @@ fn raise_record(records: &mut [u8], i: usize, version: u64)
     ensures { records.new ≡ put 12 i (record_of (state records.old i) version) records.old }
 {
     let kept = record::state_of(slot::record_of(records, i));
-    let line = record::build(kept, 0, version);
-    slot::store_record(records, i, &line);
+    change::put_record(records, i, kept, version);
 }
 
 // A leaf's stretch is stored in place, with the next version in block and record.
@@ -55,24 +56,21 @@ pub fn write_slot(
     e: Edition,
     pool: &mut [u8],
     records: &mut [u8],
-    heights: &[u8],
-    firsts: &[u32],
+    notes: Notes,
     src: &[u8],
     offset: usize,
     i: usize,
 )
     requires proper { Proper e }
     requires size_value { e.size ≡ 16 + e.leaf }
-    requires place { Place e pool.old heights.now firsts.now i }
+    requires place { Place e pool.old notes.heights.now notes.firsts.now i }
     requires i_in_bounds { 12 * i + 12 ≤ length records.old }
-    requires writable { Writable e pool.old records.old heights.now i }
-    ensures pool_after { pool.new ≡ puts e.size (λ c. c.block) (write_plan e pool.old records.old heights.now firsts.now src.now offset i) pool.old }
-    ensures records_after { records.new ≡ puts 12 (λ c. c.line) (write_plan e pool.old records.old heights.now firsts.now src.now offset i) records.old }
+    requires writable { Writable e pool.old records.old notes.heights.now i }
+    ensures pool_after { pool.new ≡ puts e.size (λ c. c.block) (write_plan e pool.old records.old notes.entry.heights.now notes.entry.firsts.now src.now offset i) pool.old }
+    ensures records_after { records.new ≡ puts 12 (λ c. c.line) (write_plan e pool.old records.old notes.entry.heights.now notes.entry.firsts.now src.now offset i) records.old }
 {
-    let t = stretch::plan_slot(e, pool, heights, firsts, src, offset, i);
-    let count = t.count;
-    if count == 0 {
-        return;
+    match stretch::plan_slot(e, pool, notes, src, offset, i) {
+        None => {}
+        Some(t) => store_leaf(e, pool, records, src, i, t.within, t.from, t.count),
     }
-    store_leaf(e, pool, records, src, i, t.within, t.from, count);
 }

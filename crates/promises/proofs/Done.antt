@@ -21,6 +21,7 @@ use Rattle.meaning.specs.Calls.{Outcome, done, after, slots_in, become, usable, 
 use Rattle.meaning.specs.Calls.{create_call, create_in, create_on, write_call, resize_call, delete_call, delete_in, delete_on}
 use Rattle.meaning.specs.Answers.{yields}
 use Rattle.meaning.specs.Run.{create, write, resize, delete, says, perform}
+use Rattle.meaning.specs.declared.Reason.TheVariants.{NoRoom}
 use Rattle.laws.proofs.Inversions.{by_test, true_both, same_self, never}
 use Rattle.laws.proofs.Codec.{state_of_lem, recorded_of_lem}
 use Rattle.laws.proofs.Ranges.{in_range, in_filter}
@@ -105,7 +106,7 @@ module _ (e : Edition) (p : Proper e) (S : Store) where
       let (o, w) = opened_done e P R _ q in
       let l = sized_lengths e P R o.sized in
       let (bs, seen, f, k) = after_check_done (pool_check e N P R) _ w in
-      let (t, d) = refuse_if_done (ltb (length (free_at e S)) 1) 11 _ k in
+      let (t, d) = refuse_if_done (ltb (length (free_at e S)) 1) NoRoom _ k in
       let i = done_same d in
       let m = create_done e p S q in
       let (rest, free) = first_free (free_at e S) s (ltb-false (length (free_at e S)) 1 t) i.0 in

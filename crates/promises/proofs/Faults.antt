@@ -1,4 +1,5 @@
 -- The faults of a walk are numbered 4 to 9 and name a slot: so those of its checks are, and a walk hands them on.
+use Rattle.std.specs.Prelude.{Err, None, Ok, Some}
 use mathlib.Core.Path.{◌≡◌, refl, sym, ap}
 use mathlib.Core.Logic.{⊎_elim}
 use mathlib.Core.Bool.{Bool, true}
@@ -7,32 +8,30 @@ use Prim.Native.Nat.{ℕ, zero, suc, ◌≤◌, min}
 use native.Mathlib.Omega.{arith}
 use lib.Dec.{eqb}
 use lib.ListN.{replicate}
+use Rattle.meaning.specs.declared.Reason.TheVariants.{Reintroduced, WrongShape}
 use Rattle.meaning.specs.declared.Edition.{Edition}
-use Rattle.meaning.specs.declared.Named.TheVariants.{Slot}
 use Rattle.meaning.specs.declared.Refusal.{Refusal}
 use Rattle.meaning.specs.declared.Role.{Role}
 use Rattle.meaning.specs.declared.Role.TheVariants.{Root, Child}
-use Rattle.meaning.specs.declared.Checked.{Checked}
-use Rattle.meaning.specs.declared.Checked.TheVariants.{Passed, Faulty}
 use Rattle.meaning.specs.Lists.{pick, both, range}
 use Rattle.meaning.specs.Bytes.{block, height_of, children_of, state, recorded}
-use Rattle.meaning.specs.Refusals.{refusal_of, at, first}
+use Rattle.meaning.specs.Refusals.{refusal_of, at, first, Checked, number_of}
 use Rattle.meaning.specs.Walk.{Found, fault, fine, and_then, passing, is_empty, is_root, link_check, block_check, one_visit, visit_row, visit, from_root, blob_check}
 use Rattle.meaning.specs.Walk.{roots, closing_check, closing, pool_check}
 use Rattle.laws.proofs.Inversions.{by_test, passed_faultless, fault_not_fine, must_faulty, block_fault, link_fault}
 
 -- numbered 4 to 9, naming a slot
 abbrev pub OfWalk : Refusal → Type 0
-OfWalk q = (4 ≤ q.number) × (q.number ≤ 9) × ((s : ℕ) × (q.named ≡ Slot s))
+OfWalk q = (4 ≤ number_of q.reason) × (number_of q.reason ≤ 9) × ((s : ℕ) × (q.named ≡ Some s))
 
 -- 8 and 9 are
-eight : (s : ℕ) → OfWalk (at 8 s)
-unfolding at refusal_of
+eight : (s : ℕ) → OfWalk (at WrongShape s)
+unfolding at refusal_of number_of
 eight s = (omega arith, omega arith, (s, refl))
 
 -- so is 9
-nine : (s : ℕ) → OfWalk (at 9 s)
-unfolding at refusal_of
+nine : (s : ℕ) → OfWalk (at Reintroduced s)
+unfolding at refusal_of number_of
 nine s = (omega arith, omega arith, (s, refl))
 
 -- one fault is one refusal
@@ -47,20 +46,20 @@ by_then (fault r) k Q h x y = x (ap fault (fault_same h))
 by_then (fine a seen) k Q h x y = y a seen refl h
 
 -- of a check and a walk
-by_passing : {A : Type 0} (c : Checked) (f : Found A) {q : Refusal} (Q : Type 0) → passing c f ≡ fault q → (c ≡ Faulty q → Q) → (f ≡ fault q → Q) → Q
+by_passing : {A : Type 0} (c : Checked) (f : Found A) {q : Refusal} (Q : Type 0) → passing c f ≡ fault q → (c ≡ Err q → Q) → (f ≡ fault q → Q) → Q
 unfolding passing
-by_passing Passed f Q h x y = y h
-by_passing (Faulty r) f Q h x y = x (ap Faulty (fault_same h))
+by_passing (Ok tt) f Q h x y = y h
+by_passing (Err r) f Q h x y = x (ap Err (fault_same h))
 
 -- of two checks in a row
-by_first : (c next : Checked) {q : Refusal} (Q : Type 0) → first c next ≡ Faulty q → (c ≡ Faulty q → Q) → (next ≡ Faulty q → Q) → Q
+by_first : (c next : Checked) {q : Refusal} (Q : Type 0) → first c next ≡ Err q → (c ≡ Err q → Q) → (next ≡ Err q → Q) → Q
 unfolding first
-by_first Passed next Q h x y = y h
-by_first (Faulty r) next Q h x y = x h
+by_first (Ok tt) next Q h x y = y h
+by_first (Err r) next Q h x y = x h
 
 module _ (e : Edition) (N : ℕ) (P R : List ℕ) where
   -- check 1
-  link_numbered : (seen : List ℕ) (role : Role) (s : ℕ) (q : Refusal) → link_check N R seen role s ≡ Faulty q → OfWalk q
+  link_numbered : (seen : List ℕ) (role : Role) (s : ℕ) (q : Refusal) → link_check N R seen role s ≡ Err q → OfWalk q
   unfolding link_check
   link_numbered seen Root s q h = passed_faultless h
   link_numbered seen (Child p) s q h = ⊎_elim (λ x. rw x (eight p)) (λ x. rw x (nine s)) (link_fault N R seen p s q h)
@@ -117,14 +116,14 @@ module _ (e : Edition) (N : ℕ) (P R : List ℕ) where
       (λ t. roots_numbered ss seen q (rw t at v))
 
   -- the closing pass, at one slot
-  closing_numbered : (seen : List ℕ) (s : ℕ) (q : Refusal) → closing_check e N P R seen s ≡ Faulty q → OfWalk q
+  closing_numbered : (seen : List ℕ) (s : ℕ) (q : Refusal) → closing_check e N P R seen s ≡ Err q → OfWalk q
   unfolding closing_check
   closing_numbered seen s q c =
-      must_faulty OfWalk _ (at 9 s) _ q c (λ t. nine s)
-      (λ t d. must_faulty OfWalk _ (at 8 s) Passed q d (λ u. eight s) (λ u. passed_faultless))
+      must_faulty OfWalk _ (at Reintroduced s) _ q c (λ t. nine s)
+      (λ t d. must_faulty OfWalk _ (at WrongShape s) (Ok tt) q d (λ u. eight s) (λ u. passed_faultless))
 
   -- and through all
-  all_numbered : (ss seen : List ℕ) (q : Refusal) → closing e N P R ss seen ≡ Faulty q → OfWalk q
+  all_numbered : (ss seen : List ℕ) (q : Refusal) → closing e N P R ss seen ≡ Err q → OfWalk q
   unfolding closing
   all_numbered [] seen q c = passed_faultless c
   all_numbered (s ∷ ss) seen q c =

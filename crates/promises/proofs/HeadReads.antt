@@ -18,6 +18,7 @@ use Rattle.meaning.specs.Walk.{fine, from_root, blob_check}
 use Rattle.meaning.specs.Change.{Change}
 use Rattle.meaning.specs.Calls.{done, refuse_if, after_check, slots_in, rooted, reading, refuse_past, length_on, length_in, length_call, read_on, read_in, read_call}
 use Rattle.meaning.specs.Head.{below, height_at, byte_at, piece}
+use Rattle.meaning.specs.declared.Reason.TheVariants.{NotARoot}
 use Rattle.laws.proofs.Numbers.{number_one}
 use Rattle.laws.proofs.Inversions.{both_true}
 use Rattle.laws.proofs.Editions.{within_below}
@@ -64,7 +65,7 @@ length_met : (e : Edition) (P R : List ℕ) (r n : ℕ) {cs : List Change} → l
 unfolding length_call length_in reading rooted length_on
 length_met e P R r n h =
     let (o, k) = opened_done e P R _ h in
-    let (t, m) = refuse_if_done (not (both (ltb r (slots_in e P)) (eqb (state R r) 2))) 3 _ k in
+    let (t, m) = refuse_if_done (not (both (ltb r (slots_in e P)) (eqb (state R r) 2))) NotARoot _ k in
     let (b, seen, f, d) = after_check_done (blob_check e (slots_in e P) P R r) _ m in
     record { opens = o; blob = b; seen = seen; root = not-false (both (ltb r (slots_in e P)) (eqb (state R r) 2)) t; found = f; bytes = (done_same d).0 }
 

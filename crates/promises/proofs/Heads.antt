@@ -122,8 +122,8 @@ module _ (e : Edition) (p : Proper e) (S : Store) (P* : List ℕ) (r : ℕ) (b :
           (q, same_handed e p S (reader P* S) r n opening (q ∙ opening) (λ at m. (read_told at m).answers.1 was) sizes)),
     );
     refuses = λ other.
-        let (n, s, first, low, most, q) = length_told.refuses other in
-        (n, s, first, low, most, q, nothing e p (reader P* S) r (at n s) q);
+        let (why, s, first, low, most, q) = length_told.refuses other in
+        (why, s, first, low, most, q, nothing e p (reader P* S) r (at why s) q);
   }
 
 module _ (e : Edition) (p : Proper e) (S₀ : Store) (good : sized e S₀.pool S₀.records ≡ true) (calls : List Call) (S : Store)

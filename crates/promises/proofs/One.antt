@@ -1,4 +1,5 @@
 -- Demand one, whole: the table holds both ways, its numbers, what is left untouched, and the wipe.
+use Rattle.std.specs.Prelude.{Err, Ok, Result}
 use mathlib.Core.Path.{◌≡◌, refl, sym, ap, subst, ◌∙◌}
 use mathlib.Core.Logic.{◌↔◌, ◌⊎◌, inl, inr}
 use mathlib.Core.Bool.{Bool, true, false}
@@ -7,24 +8,24 @@ use Prim.Native.Nat.{ℕ, ◌+◌, ◌≤◌, ◌<◌}
 use native.Mathlib.Omega.{arith}
 use borrow.Author.Tests.{lt-ltb, le-leb}
 use lib.ListN.{length, replicate}
+use Rattle.meaning.specs.declared.Reason.TheVariants.{BadRecord, NoRoom, OutOfRange, WornOut, WrongLengths, NotARoot}
 use Rattle.meaning.specs.declared.Edition.{Edition}
 use Rattle.meaning.specs.declared.Refusal.{Refusal}
-use Rattle.meaning.specs.declared.Finished.{Finished}
-use Rattle.meaning.specs.declared.Finished.TheVariants as FinishedCase
 use Rattle.meaning.specs.Lists.{pick}
 use Rattle.meaning.specs.Edition.{Proper}
 use Rattle.meaning.specs.Bytes.{record_at, record_of}
 use Rattle.meaning.specs.Tree.{Blob, leaves_of, length_of}
-use Rattle.meaning.specs.Refusals.{refusal_of, at, nowhere}
+use Rattle.meaning.specs.Refusals.{refusal_of, at, nowhere, number_of}
 use Rattle.meaning.specs.Walk.{fault, fine}
 use Rattle.meaning.specs.Change.{Store}
 use Rattle.meaning.specs.Calls.{Outcome, after, sized, refuse_past, refuse_full, wiped, after_wipe}
 use Rattle.meaning.specs.Calls.{read_on, read_in, show_on, show_in, create_on, create_in, write_on, write_in, resize_on, resize_in}
 use Rattle.meaning.specs.Calls.{length_call, read_call, show_call, audit_call, create_call, write_call, resize_call, delete_call}
-use Rattle.meaning.specs.Answers.{wipe_answer, Reads, read_out, Said, yields, refuses, finished_said}
+use Rattle.meaning.specs.Answers.{wipe_answer, Reads, read_out, Said, yields, refuses, done_said}
 use Rattle.meaning.specs.Run.{Call, create, audit, write, resize, delete, tell_length, read, show_leaf, says, perform}
+use Rattle.meaning.specs.declared.Reason.{Reason}
 use Rattle.laws.proofs.Free.{free_record, free_length}
-use Rattle.laws.proofs.OneToOne.{length_said_same, audit_said_same, created_said_same, changed_said_same, finished_said_same, leaf_said_same}
+use Rattle.laws.proofs.OneToOne.{value_said_same, done_said_same, leaf_said_same}
 use Rattle.laws_history.proofs.Started.{wipe_starts}
 use Rattle.laws_sound.proofs.again.Outcomes.{sized_lengths}
 use Rattle.promises.proofs.Said.{said_by, one_number, no_number, all_bytes, leaf_shown, said_refused, refused_said}
@@ -48,57 +49,57 @@ module _ (e : Edition) (p : Proper e) (S : Store) where
   R = S.records
 
   -- the refusals of one call each: 12 of write
-  write_worn : (r offset : ℕ) (d : List ℕ) (b : Blob) → Met e S (write r offset d) r b → Worn S b → says e S (write r offset d) ≡ refuses (nowhere 12)
+  write_worn : (r offset : ℕ) (d : List ℕ) (b : Blob) → Met e S (write r offset d) r b → Worn S b → says e S (write r offset d) ≡ refuses (nowhere WornOut)
   unfolding write_call write_in walked
   write_worn r offset d b m worn =
-      says_write e S r offset d ∙ refused_said no_number _ (nowhere 12) (changing_met e p S (write r offset d) r b (write_on e N P R offset d) refl m
+      says_write e S r offset d ∙ refused_said no_number _ (nowhere WornOut) (changing_met e p S (write r offset d) r b (write_on e N P R offset d) refl m
       ∙ unfold write_on in worn_refused e S _ b worn)
 
   -- 12 of resize
-  resize_worn : (r len : ℕ) (b : Blob) → Met e S (resize r len) r b → Worn S b → says e S (resize r len) ≡ refuses (nowhere 12)
+  resize_worn : (r len : ℕ) (b : Blob) → Met e S (resize r len) r b → Worn S b → says e S (resize r len) ≡ refuses (nowhere WornOut)
   unfolding resize_call resize_in walked
   resize_worn r len b m worn =
-      says_resize e S r len ∙ refused_said no_number _ (nowhere 12) (changing_met e p S (resize r len) r b (resize_on e N P R len) refl m
+      says_resize e S r len ∙ refused_said no_number _ (nowhere WornOut) (changing_met e p S (resize r len) r b (resize_on e N P R len) refl m
       ∙ unfold resize_on in worn_refused e S _ b worn)
 
   -- 10 of write
   write_past : (r offset : ℕ) (d : List ℕ) (b : Blob) → Met e S (write r offset d) r b → (Worn S b → ⊥) → length_of b < offset + length d
-      → says e S (write r offset d) ≡ refuses (nowhere 10)
+      → says e S (write r offset d) ≡ refuses (nowhere OutOfRange)
   unfolding write_call write_in walked
   write_past r offset d b m young h =
-      says_write e S r offset d ∙ refused_said no_number _ (nowhere 10) (changing_met e p S (write r offset d) r b (write_on e N P R offset d) refl m
-      ∙ unfold write_on refuse_past in worn_passed e S _ b young ∙ if_refused _ 10 _ (lt-ltb (length_of b) (offset + length d) h))
+      says_write e S r offset d ∙ refused_said no_number _ (nowhere OutOfRange) (changing_met e p S (write r offset d) r b (write_on e N P R offset d) refl m
+      ∙ unfold write_on refuse_past in worn_passed e S _ b young ∙ if_refused _ OutOfRange _ (lt-ltb (length_of b) (offset + length d) h))
 
   -- 10 of read
   read_past : (r offset size : ℕ) (b : Blob) → Met e S (read r offset size) r b → length_of b < offset + size
-      → says e S (read r offset size) ≡ refuses (nowhere 10)
+      → says e S (read r offset size) ≡ refuses (nowhere OutOfRange)
   unfolding read_call read_in
   read_past r offset size b m h =
-      says_read e S r offset size ∙ refused_said all_bytes _ (nowhere 10) (reads e p S r b m.finds (read_on e N P R offset size)
-      ∙ unfold read_on refuse_past in if_refused _ 10 _ (lt-ltb (length_of b) (offset + size) h))
+      says_read e S r offset size ∙ refused_said all_bytes _ (nowhere OutOfRange) (reads e p S r b m.finds (read_on e N P R offset size)
+      ∙ unfold read_on refuse_past in if_refused _ OutOfRange _ (lt-ltb (length_of b) (offset + size) h))
 
   -- 10 of show
-  show_past : (r k : ℕ) (b : Blob) → Met e S (show_leaf r k) r b → length (leaves_of b) ≤ k → says e S (show_leaf r k) ≡ refuses (nowhere 10)
+  show_past : (r k : ℕ) (b : Blob) → Met e S (show_leaf r k) r b → length (leaves_of b) ≤ k → says e S (show_leaf r k) ≡ refuses (nowhere OutOfRange)
   unfolding show_call show_in
   show_past r k b m h =
-      says_show e S r k ∙ refused_said (leaf_shown e P) _ (nowhere 10) (reads e p S r b m.finds (show_on e N P R k)
-      ∙ unfold show_on in if_refused _ 10 _ (le-leb (length (leaves_of b)) k h))
+      says_show e S r k ∙ refused_said (leaf_shown e P) _ (nowhere OutOfRange) (reads e p S r b m.finds (show_on e N P R k)
+      ∙ unfold show_on in if_refused _ OutOfRange _ (le-leb (length (leaves_of b)) k h))
 
   -- 11 of resize
   resize_full : (r len : ℕ) (b : Blob) → Met e S (resize r len) r b → (Worn S b → ⊥) → length (free_at e S) < new_at e S len b
-      → says e S (resize r len) ≡ refuses (nowhere 11)
+      → says e S (resize r len) ≡ refuses (nowhere NoRoom)
   unfolding resize_call resize_in walked
   resize_full r len b m young h =
-      says_resize e S r len ∙ refused_said no_number _ (nowhere 11) (changing_met e p S (resize r len) r b (resize_on e N P R len) refl m
-      ∙ unfold resize_on refuse_full in worn_passed e S _ b young ∙ if_refused _ 11 _ (lt-ltb (length (free_at e S)) (new_at e S len b) h))
+      says_resize e S r len ∙ refused_said no_number _ (nowhere NoRoom) (changing_met e p S (resize r len) r b (resize_on e N P R len) refl m
+      ∙ unfold resize_on refuse_full in worn_passed e S _ b young ∙ if_refused _ NoRoom _ (lt-ltb (length (free_at e S)) (new_at e S len b) h))
 
   -- 11 of create
   create_full : (bs : List Blob) (seen : List ℕ) → Opened e S → pool_at e S ≡ fine bs seen → length (free_at e S) < 1
-      → says e S create ≡ refuses (nowhere 11)
+      → says e S create ≡ refuses (nowhere NoRoom)
   unfolding create_call create_in create_on refuse_full
   create_full bs seen o f h =
-      says_create e S ∙ refused_said one_number _ (nowhere 11) (opened_passed e S _ o ∙ check_passed (pool_at e S) (create_on e N P R) bs seen f
-      ∙ if_refused _ 11 _ (lt-ltb (length (free_at e S)) 1 h))
+      says_create e S ∙ refused_said one_number _ (nowhere NoRoom) (opened_passed e S _ o ∙ check_passed (pool_at e S) (create_on e N P R) bs seen f
+      ∙ if_refused _ NoRoom _ (lt-ltb (length (free_at e S)) 1 h))
 
   -- a refusal of another call
   other_call : (c : Call) (x : Call) (q t : Refusal) → c ≡ x → q ≡ t → says e S x ≡ refuses t → says e S c ≡ refuses q
@@ -132,35 +133,36 @@ module _ (e : Edition) (p : Proper e) (S : Store) where
 
   -- a number of the table
   abbrev Listed : Refusal → Type 0
-  Listed q = (1 ≤ q.number) × (q.number ≤ 12)
+  Listed q = (1 ≤ number_of q.reason) × (number_of q.reason ≤ 12)
 
   -- one that names no slot
-  nowhere_listed : (n : ℕ) (q : Refusal) → 1 ≤ n → n ≤ 12 → q ≡ nowhere n → Listed q
+  nowhere_listed : (why : Reason) (q : Refusal) → 1 ≤ number_of why → number_of why ≤ 12 → q ≡ nowhere why → Listed q
   unfolding nowhere refusal_of
-  nowhere_listed n q lo hi k = rw k (lo, hi)
+  nowhere_listed why q lo hi k = rw k (lo, hi)
 
   -- 2
-  at_listed : (s : ℕ) (q : Refusal) → q ≡ at 2 s → Listed q
-  unfolding at refusal_of
+  at_listed : (s : ℕ) (q : Refusal) → q ≡ at BadRecord s → Listed q
+  unfolding at refusal_of number_of
   at_listed s q k = rw k (omega arith, omega arith)
 
   -- every refusal of the table has one
   table_listed : (c : Call) (q : Refusal) → Table e S c q → Listed q
-  table_listed c q (refusal_1 h k) = nowhere_listed 1 q (omega arith) (omega arith) k
+  unfolding number_of
+  table_listed c q (refusal_1 h k) = nowhere_listed WrongLengths q (omega arith) (omega arith) k
   table_listed c q (refusal_2 s h low bad f k) = at_listed s q k
-  table_listed c q (refusal_3 r o one bad k) = nowhere_listed 3 q (omega arith) (omega arith) k
+  table_listed c q (refusal_3 r o one bad k) = nowhere_listed NotARoot q (omega arith) (omega arith) k
   table_listed c q (refusals_4_to_9 o roots f) = let (lo, hi, s) = walk_numbered c q f in (omega arith, omega arith)
-  table_listed c q (refusal_12_write r offset d b k m worn l) = nowhere_listed 12 q (omega arith) (omega arith) l
-  table_listed c q (refusal_12_resize r len b k m worn l) = nowhere_listed 12 q (omega arith) (omega arith) l
-  table_listed c q (refusal_10_write r offset d b k m y h l) = nowhere_listed 10 q (omega arith) (omega arith) l
-  table_listed c q (refusal_10_read r offset size b k m h l) = nowhere_listed 10 q (omega arith) (omega arith) l
-  table_listed c q (refusal_10_show r i b k m h l) = nowhere_listed 10 q (omega arith) (omega arith) l
-  table_listed c q (refusal_11_resize r len b k m y h l) = nowhere_listed 11 q (omega arith) (omega arith) l
-  table_listed c q (refusal_11_create bs seen k o f h l) = nowhere_listed 11 q (omega arith) (omega arith) l
+  table_listed c q (refusal_12_write r offset d b k m worn l) = nowhere_listed WornOut q (omega arith) (omega arith) l
+  table_listed c q (refusal_12_resize r len b k m worn l) = nowhere_listed WornOut q (omega arith) (omega arith) l
+  table_listed c q (refusal_10_write r offset d b k m y h l) = nowhere_listed OutOfRange q (omega arith) (omega arith) l
+  table_listed c q (refusal_10_read r offset size b k m h l) = nowhere_listed OutOfRange q (omega arith) (omega arith) l
+  table_listed c q (refusal_10_show r i b k m h l) = nowhere_listed OutOfRange q (omega arith) (omega arith) l
+  table_listed c q (refusal_11_resize r len b k m y h l) = nowhere_listed NoRoom q (omega arith) (omega arith) l
+  table_listed c q (refusal_11_create bs seen k o f h l) = nowhere_listed NoRoom q (omega arith) (omega arith) l
 
   -- how a call ends: with its result, or with a listed refusal
   abbrev Ended : Call → Type 0
-  Ended c = ((vs : List ℕ) × (says e S c ≡ yields vs)) ⊎ ((q : Refusal) × (says e S c ≡ refuses q) × (1 ≤ q.number) × (q.number ≤ 12))
+  Ended c = ((vs : List ℕ) × (says e S c ≡ yields vs)) ⊎ ((q : Refusal) × (says e S c ≡ refuses q) × (1 ≤ number_of q.reason) × (number_of q.reason ≤ 12))
 
   -- so it ends
   call_ends : (c : Call) → Ended c
@@ -188,20 +190,20 @@ module _ (e : Edition) (p : Proper e) (S : Store) where
   call_untouched (show_leaf r k) q h = refused_after _ (show_call e P R r k) q (sym (says_show e S r k) ∙ h)
 
   -- nor does a refused read fill any byte
-  read_unfilled : (r offset size : ℕ) (q : Refusal) → says e S (read r offset size) ≡ refuses q → (x : Finished) (out out' : List ℕ)
+  read_unfilled : (r offset size : ℕ) (q : Refusal) → says e S (read r offset size) ≡ refuses q → (x : Result (Unit {0}) Refusal) (out out' : List ℕ)
       → Reads (read_call e P R r offset size) x out out' → out' ≡ out
   unfolding read_out
   read_unfilled r offset size q h x out out' a =
       a.output ∙ ap (λ o. read_out o out) (said_refused all_bytes (read_call e P R r offset size) q (sym (says_read e S r offset size) ∙ h))
 
   -- wipe
-  wipe_exactly : (q : Refusal) → (finished_said (wipe_answer e P R) ≡ refuses q) ↔ ((sized e P R ≡ false) × (q ≡ nowhere 1))
-  unfolding wipe_answer finished_said pick
+  wipe_exactly : (q : Refusal) → (done_said (wipe_answer e P R) ≡ refuses q) ↔ ((sized e P R ≡ false) × (q ≡ nowhere WrongLengths))
+  unfolding wipe_answer done_said pick
   wipe_exactly q = (go (sized e P R), λ (t, k). rw (t, k))
     where
-      go : (t : Bool) → finished_said (pick t FinishedCase.Done (FinishedCase.Refused (nowhere 1))) ≡ refuses q → (t ≡ false) × (q ≡ nowhere 1)
+      go : (t : Bool) → done_said (pick t (Ok tt) (Err (nowhere WrongLengths))) ≡ refuses q → (t ≡ false) × (q ≡ nowhere WrongLengths)
       go true h = let z : ◌≡◌ {A = ℕ} 0 1 = cc in absurd (omega arith)
-      go false h = let k : q ≡ nowhere 1 = cc in (refl, k)
+      go false h = let k : q ≡ nowhere WrongLengths = cc in (refl, k)
 
   -- what it leaves: zeros, and free records at version 0
   wipe_leaves : sized e P R ≡ true
@@ -235,5 +237,5 @@ one e p = record {
   one_end = λ say o P R x y P' R' P'' R'' a b. (a.answer ∙ sym b.answer, a.pool ∙ sym b.pool, a.records ∙ sym b.records);
   one_wipe = λ P R x y P' R' P'' R'' a b. (a.answer ∙ sym b.answer, a.pool ∙ sym b.pool, a.records ∙ sym b.records);
   one_read = λ o x y out out' out'' a b. (a.answer ∙ sym b.answer, a.output ∙ sym b.output);
-  one_answer = (length_said_same, audit_said_same, created_said_same, changed_said_same, finished_said_same, leaf_said_same);
+  one_answer = (value_said_same, done_said_same, leaf_said_same);
 }

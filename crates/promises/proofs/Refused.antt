@@ -6,6 +6,7 @@ use Prim.Native.Nat.{ℕ, zero, suc, ◌+◌, ◌≤◌, ◌<◌}
 use native.Mathlib.Omega.{arith}
 use borrow.Author.Tests.{ltb-true, ltb-false, eqb-true, eqb-false, lt-ltb, le-ltb, eq-eqb, not-true, not-false}
 use lib.Dec.{ltb, eqb}
+use Rattle.meaning.specs.declared.Reason.TheVariants.{BadRecord, NotARoot, WornOut, WrongLengths}
 use Rattle.meaning.specs.declared.Edition.{Edition}
 use Rattle.meaning.specs.declared.Refusal.{Refusal}
 use Rattle.meaning.specs.Lists.{pick, both, range, all}
@@ -15,6 +16,7 @@ use Rattle.meaning.specs.Refusals.{at, nowhere}
 use Rattle.meaning.specs.Walk.{Found, fault, fine}
 use Rattle.meaning.specs.Change.{Store}
 use Rattle.meaning.specs.Calls.{Outcome, refused, refuse_if, after_check, refuse_bad_record, sized, opened, rooted, refuse_worn}
+use Rattle.meaning.specs.declared.Reason.{Reason}
 use Rattle.laws.proofs.Inversions.{by_test, both_true, true_both, never}
 use Rattle.laws_history.proofs.Answered.{rooted_passes}
 use Rattle.laws_sound.proofs.again.Outcomes.{opens_passes}
@@ -25,19 +27,19 @@ pub refused_same : {A : Type 0} {r q : Refusal} → ◌≡◌ {A = Outcome A} (r
 refused_same h = cc
 
 -- a refusal, or what is behind it
-pub by_if : {A : Type 0} (t : Bool) (n : ℕ) (o : Outcome A) {q : Refusal} (Q : Type 0) → refuse_if t n o ≡ refused q → (t ≡ true → q ≡ nowhere n → Q)
+pub by_if : {A : Type 0} (t : Bool) (n : Reason) (o : Outcome A) {q : Refusal} (Q : Type 0) → refuse_if t n o ≡ refused q → (t ≡ true → q ≡ nowhere n → Q)
     → (t ≡ false → o ≡ refused q → Q) → Q
 unfolding refuse_if
 by_if true n o Q h x y = x refl (sym (refused_same h))
 by_if false n o Q h x y = y refl h
 
 -- it is made
-pub if_refused : {A : Type 0} (t : Bool) (n : ℕ) (o : Outcome A) → t ≡ true → refuse_if t n o ≡ refused (nowhere n)
+pub if_refused : {A : Type 0} (t : Bool) (n : Reason) (o : Outcome A) → t ≡ true → refuse_if t n o ≡ refused (nowhere n)
 unfolding refuse_if
 if_refused t n o h = rw h
 
 -- it is not made
-pub if_passed : {A : Type 0} (t : Bool) (n : ℕ) (o : Outcome A) → t ≡ false → refuse_if t n o ≡ o
+pub if_passed : {A : Type 0} (t : Bool) (n : Reason) (o : Outcome A) → t ≡ false → refuse_if t n o ≡ o
 unfolding refuse_if
 if_passed t n o h = rw h
 
@@ -69,7 +71,7 @@ sound_more R n f h t low = by_test (eqb t n) (λ x. rw (eqb-true t n x) h) (λ x
 -- the lowest that breaks it, or what is behind it
 by_records : {A : Type 0} (R : List ℕ) (n from : ℕ) (o : Outcome A) {q : Refusal} (Q : Type 0) → refuse_bad_record R (range from n) o ≡ refused q
     → ((t : ℕ) → t < from → Sound R t)
-    → ((s : ℕ) → s < from + n → sound_record (record_at R s) ≡ false → ((t : ℕ) → t < s → Sound R t) → q ≡ at 2 s → Q)
+    → ((s : ℕ) → s < from + n → sound_record (record_at R s) ≡ false → ((t : ℕ) → t < s → Sound R t) → q ≡ at BadRecord s → Q)
     → (((t : ℕ) → t < from + n → Sound R t) → o ≡ refused q → Q) → Q
 unfolding refuse_bad_record range pick
 by_records R zero from o Q h f x y = y (λ t low. f t (omega arith)) h
@@ -80,7 +82,7 @@ by_records R (suc n) from o Q h f x y =
 
 -- the lowest that breaks it is named
 records_refused : {A : Type 0} (R : List ℕ) (n from s : ℕ) (o : Outcome A) → from ≤ s → s < from + n → sound_record (record_at R s) ≡ false
-    → ((t : ℕ) → t < s → Sound R t) → refuse_bad_record R (range from n) o ≡ refused (at 2 s)
+    → ((t : ℕ) → t < s → Sound R t) → refuse_bad_record R (range from n) o ≡ refused (at BadRecord s)
 unfolding refuse_bad_record range pick
 records_refused R zero from s o lo hi bad f = absurd (omega arith)
 records_refused R (suc n) from s o lo hi bad f =
@@ -92,13 +94,13 @@ records_refused R (suc n) from s o lo hi bad f =
 module _ {A : Type 0} (e : Edition) (S : Store) (o : Outcome A) where
   -- the first of both, or what is behind them
   pub by_opened : {q : Refusal} (Q : Type 0) → opened e S.pool S.records o ≡ refused q
-      → (sized e S.pool S.records ≡ false → q ≡ nowhere 1 → Q)
+      → (sized e S.pool S.records ≡ false → q ≡ nowhere WrongLengths → Q)
       → ((s : ℕ) → sized e S.pool S.records ≡ true → s < slots_at e S → sound_record (record_at S.records s) ≡ false
-      → ((t : ℕ) → t < s → sound_record (record_at S.records t) ≡ true) → q ≡ at 2 s → Q)
+      → ((t : ℕ) → t < s → sound_record (record_at S.records t) ≡ true) → q ≡ at BadRecord s → Q)
       → (Opened e S → o ≡ refused q → Q) → Q
   unfolding opened
   by_opened Q h x y z =
-      by_if (not (sized e S.pool S.records)) 1 _ Q h
+      by_if (not (sized e S.pool S.records)) WrongLengths _ Q h
       (λ t. x (not-true (sized e S.pool S.records) t))
       (λ t w. let good = not-false (sized e S.pool S.records) t in
       by_records S.records (slots_at e S) 0 o Q w (λ t low. absurd (omega arith))
@@ -106,15 +108,15 @@ module _ {A : Type 0} (e : Edition) (S : Store) (o : Outcome A) where
       (λ g. z (record { lengths = good; layout = λ s low. g s (omega arith) })))
 
   -- 1 is made
-  pub lengths_refused : sized e S.pool S.records ≡ false → opened e S.pool S.records o ≡ refused (nowhere 1)
+  pub lengths_refused : sized e S.pool S.records ≡ false → opened e S.pool S.records o ≡ refused (nowhere WrongLengths)
   unfolding opened
-  lengths_refused h = if_refused _ 1 _ (ap not h)
+  lengths_refused h = if_refused _ WrongLengths _ (ap not h)
 
   -- 2 is made
   pub layout_refused : (s : ℕ) → sized e S.pool S.records ≡ true → s < slots_at e S → sound_record (record_at S.records s) ≡ false
-      → ((t : ℕ) → t < s → sound_record (record_at S.records t) ≡ true) → opened e S.pool S.records o ≡ refused (at 2 s)
+      → ((t : ℕ) → t < s → sound_record (record_at S.records t) ≡ true) → opened e S.pool S.records o ≡ refused (at BadRecord s)
   unfolding opened
-  layout_refused s h low bad f = if_passed _ 1 _ (ap not h) ∙ records_refused S.records (slots_at e S) 0 s o (omega arith) (omega arith) bad f
+  layout_refused s h low bad f = if_passed _ WrongLengths _ (ap not h) ∙ records_refused S.records (slots_at e S) 0 s o (omega arith) (omega arith) bad f
 
   -- neither is
   pub opened_passed : Opened e S → opened e S.pool S.records o ≡ o
@@ -132,10 +134,10 @@ module _ {A : Type 0} (e : Edition) (S : Store) (o : Outcome A) where
 
   -- refusal 3
   pub by_rooted : (r : ℕ) {q : Refusal} (Q : Type 0) → rooted e (slots_at e S) S.pool S.records r o ≡ refused q
-      → ((IsRoot e S r → ⊥) → q ≡ nowhere 3 → Q) → (IsRoot e S r → o ≡ refused q → Q) → Q
+      → ((IsRoot e S r → ⊥) → q ≡ nowhere NotARoot → Q) → (IsRoot e S r → o ≡ refused q → Q) → Q
   unfolding rooted
   by_rooted r Q h x y =
-      by_if (not (root_test r)) 3 o Q h
+      by_if (not (root_test r)) NotARoot o Q h
       (λ b. x (λ is. never (sym (root_tested is) ∙ not-true (root_test r) b)))
       (λ b. y (tested_root r (not-false (root_test r) b)))
     where
@@ -143,10 +145,10 @@ module _ {A : Type 0} (e : Edition) (S : Store) (o : Outcome A) where
       root_tested is = true_both (ltb r (slots_at e S)) _ (lt-ltb r (slots_at e S) is.0) (eq-eqb (state S.records r) 2 is.1)
 
   -- it is made
-  pub root_refused : (r : ℕ) → (IsRoot e S r → ⊥) → rooted e (slots_at e S) S.pool S.records r o ≡ refused (nowhere 3)
+  pub root_refused : (r : ℕ) → (IsRoot e S r → ⊥) → rooted e (slots_at e S) S.pool S.records r o ≡ refused (nowhere NotARoot)
   unfolding rooted
   root_refused r no_root =
-      by_test (root_test r) (λ t. absurd (no_root (tested_root r t))) (λ t. if_refused (not (root_test r)) 3 o (ap not t))
+      by_test (root_test r) (λ t. absurd (no_root (tested_root r t))) (λ t. if_refused (not (root_test r)) NotARoot o (ap not t))
 
   -- it is not made
   pub root_passed : (r : ℕ) → IsRoot e S r → rooted e (slots_at e S) S.pool S.records r o ≡ o
@@ -175,20 +177,20 @@ module _ {A : Type 0} (e : Edition) (S : Store) (o : Outcome A) where
 
   -- it, or what is behind it
   pub by_worn : (b : Blob) {q : Refusal} (Q : Type 0) → refuse_worn e (slots_at e S) S.pool S.records b o ≡ refused q
-      → (Worn S b → q ≡ nowhere 12 → Q) → ((Worn S b → ⊥) → o ≡ refused q → Q) → Q
+      → (Worn S b → q ≡ nowhere WornOut → Q) → ((Worn S b → ⊥) → o ≡ refused q → Q) → Q
   unfolding refuse_worn
   by_worn b Q h x y =
-      by_if _ 12 o Q h
+      by_if _ WornOut o Q h
       (λ t. x (worn_found (slots_of b) (not-true (youngs (slots_of b)) t)))
       (λ t. y (λ (s, m, k). never (sym (not-false (youngs (slots_of b)) t) ∙ worn_seen (slots_of b) s m k)))
 
   -- it is made
-  pub worn_refused : (b : Blob) → Worn S b → refuse_worn e (slots_at e S) S.pool S.records b o ≡ refused (nowhere 12)
+  pub worn_refused : (b : Blob) → Worn S b → refuse_worn e (slots_at e S) S.pool S.records b o ≡ refused (nowhere WornOut)
   unfolding refuse_worn
-  worn_refused b (s, m, k) = if_refused _ 12 o (ap not (worn_seen (slots_of b) s m k))
+  worn_refused b (s, m, k) = if_refused _ WornOut o (ap not (worn_seen (slots_of b) s m k))
 
   -- it is not made
   pub worn_passed : (b : Blob) → (Worn S b → ⊥) → refuse_worn e (slots_at e S) S.pool S.records b o ≡ o
   unfolding refuse_worn
   worn_passed b none =
-      by_test (youngs (slots_of b)) (λ t. if_passed _ 12 o (ap not t)) (λ t. absurd (none (worn_found (slots_of b) t)))
+      by_test (youngs (slots_of b)) (λ t. if_passed _ WornOut o (ap not t)) (λ t. absurd (none (worn_found (slots_of b) t)))

@@ -9,6 +9,7 @@ use native.Mathlib.Omega.{arith}
 use borrow.Author.Tests.{ltb-true, leb-true}
 use lib.Dec.{leb, ltb}
 use lib.ListN.{length}
+use Rattle.meaning.specs.declared.Reason.TheVariants.{BadRecord, NotARoot, WrongLengths, NoRoom, OutOfRange}
 use Rattle.meaning.specs.declared.Edition.{Edition}
 use Rattle.meaning.specs.declared.Refusal.{Refusal}
 use Rattle.meaning.specs.Edition.{Proper}
@@ -78,18 +79,18 @@ module _ (e : Edition) (S : Store) (c : Call) (x : Chain e S c) where
   refused_by q h = x.is ∙ refused_said x.values _ q h
 
   -- refusal 1
-  pub chain_1 : (q : Refusal) → sized e S.pool S.records ≡ false → q ≡ nowhere 1 → says e S c ≡ refuses q
+  pub chain_1 : (q : Refusal) → sized e S.pool S.records ≡ false → q ≡ nowhere WrongLengths → says e S c ≡ refuses q
   chain_1 q h k = refused_by q (lengths_refused e S x.inside h ∙ ap refused (sym k))
 
   -- refusal 2
   pub chain_2 : (q : Refusal) (s : ℕ) → sized e S.pool S.records ≡ true → s < slots_at e S → sound_record (record_at S.records s) ≡ false
-      → ((t : ℕ) → t < s → sound_record (record_at S.records t) ≡ true) → q ≡ at 2 s → says e S c ≡ refuses q
+      → ((t : ℕ) → t < s → sound_record (record_at S.records t) ≡ true) → q ≡ at BadRecord s → says e S c ≡ refuses q
   chain_2 q s h low bad f k = refused_by q (layout_refused e S x.inside s h low bad f ∙ ap refused (sym k))
 
   -- refusal 3
-  pub chain_3 : (q : Refusal) (r : ℕ) → Opened e S → named c ≡ r ∷ [] → (IsRoot e S r → ⊥) → q ≡ nowhere 3 → says e S c ≡ refuses q
+  pub chain_3 : (q : Refusal) (r : ℕ) → Opened e S → named c ≡ r ∷ [] → (IsRoot e S r → ⊥) → q ≡ nowhere NotARoot → says e S c ≡ refuses q
   chain_3 q r o one bad k =
-      let third : x.inside ≡ refused (nowhere 3) =
+      let third : x.inside ≡ refused (nowhere NotARoot) =
       ⊎_elim
       (λ (none, same). no_root (sym none ∙ one))
       (λ (s, is, same). same ∙ root_refused e S x.behind s (λ root. bad (subst (IsRoot e S) (one_root (sym is ∙ one)) root)))
@@ -172,7 +173,7 @@ module _ (e : Edition) (p : Proper e) (S : Store) where
     rest = λ q o roots h. unfold create_in create_on refuse_full walked in
         by_check (pool_at e S) (create_on e N P R) (Table e S create q) h
         (λ f. refusals_4_to_9 o roots f)
-        (λ bs seen f w. by_if (ltb (length (free_at e S)) 1) 11 _ (Table e S create q) w
+        (λ bs seen f w. by_if (ltb (length (free_at e S)) 1) NoRoom _ (Table e S create q) w
         (λ t k. refusal_11_create bs seen refl o f (ltb-true (length (free_at e S)) 1 t) k) (λ t z. refused_done (sym z)));
   }
   chain audit = record {
@@ -209,7 +210,7 @@ module _ (e : Edition) (p : Proper e) (S : Store) where
         (λ b m w. unfold write_on refuse_past in
         by_worn e S _ b (Table e S (write r offset d) q) w
         (λ worn k. refusal_12_write r offset d b refl m worn k)
-        (λ young w. by_if (ltb (length_of b) (offset + length d)) 10 _ (Table e S (write r offset d) q) w
+        (λ young w. by_if (ltb (length_of b) (offset + length d)) OutOfRange _ (Table e S (write r offset d) q) w
         (λ t k. refusal_10_write r offset d b refl m young (ltb-true (length_of b) (offset + length d) t) k) (λ t z. refused_done (sym z)))) o roots h;
   }
   chain (resize r len) = record {
@@ -224,7 +225,7 @@ module _ (e : Edition) (p : Proper e) (S : Store) where
         (λ b m w. unfold resize_on refuse_full in
         by_worn e S _ b (Table e S (resize r len) q) w
         (λ worn k. refusal_12_resize r len b refl m worn k)
-        (λ young w. by_if (ltb (length (free_at e S)) (new_at e S len b)) 11 _ (Table e S (resize r len) q) w
+        (λ young w. by_if (ltb (length (free_at e S)) (new_at e S len b)) NoRoom _ (Table e S (resize r len) q) w
         (λ t k. refusal_11_resize r len b refl m young (ltb-true (length (free_at e S)) (new_at e S len b) t) k) (λ t z. refused_done (sym z)))) o roots h;
   }
   chain (tell_length r) = record {
@@ -248,7 +249,7 @@ module _ (e : Edition) (p : Proper e) (S : Store) where
     faults = λ q f. unfold walked in check_refused (blob_at e S r) _ q (one_fault (blob_at e S r) q f);
     rest = λ q o roots h. reading_rest (read r offset size) r (read_on e N P R offset size) (unfold named in refl) (unfold walked in refl) q
         (λ b m w. unfold read_on refuse_past in
-        by_if (ltb (length_of b) (offset + size)) 10 _ (Table e S (read r offset size) q) w
+        by_if (ltb (length_of b) (offset + size)) OutOfRange _ (Table e S (read r offset size) q) w
         (λ t k. refusal_10_read r offset size b refl m (ltb-true (length_of b) (offset + size) t) k) (λ t z. refused_done (sym z))) o roots h;
   }
   chain (show_leaf r i) = record {
@@ -261,6 +262,6 @@ module _ (e : Edition) (p : Proper e) (S : Store) where
     faults = λ q f. unfold walked in check_refused (blob_at e S r) _ q (one_fault (blob_at e S r) q f);
     rest = λ q o roots h. reading_rest (show_leaf r i) r (show_on e N P R i) (unfold named in refl) (unfold walked in refl) q
         (λ b m w. unfold show_on in
-        by_if (leb (length (leaves_of b)) i) 10 _ (Table e S (show_leaf r i) q) w
+        by_if (leb (length (leaves_of b)) i) OutOfRange _ (Table e S (show_leaf r i) q) w
         (λ t k. refusal_10_show r i b refl m (leb-true (length (leaves_of b)) i t) k) (λ t z. refused_done (sym z))) o roots h;
   }

@@ -10,8 +10,8 @@ use Rattle.meaning.specs.Lists.{part}
 use Rattle.meaning.specs.Change.{Change, Store}
 use Rattle.meaning.specs.Calls.{Outcome, refused, done}
 use Rattle.meaning.specs.Calls.{length_call, read_call, show_call, audit_call, create_call, write_call, resize_call, delete_call}
-use Rattle.meaning.specs.Answers.{length_answer, audit_answer, create_answer, change_answer, finish_answer, leaf_answer, read_out, shown_part}
-use Rattle.meaning.specs.Answers.{Said, yields, refuses, length_said, audit_said, created_said, changed_said, finished_said, leaf_said, said_with}
+use Rattle.meaning.specs.Answers.{answer_of, finish_answer, leaf_answer, read_out, shown_part}
+use Rattle.meaning.specs.Answers.{Said, yields, refuses, value_said, done_said, leaf_said, said_with}
 use Rattle.meaning.specs.Run.{create, audit, write, resize, delete, tell_length, read, show_leaf, says}
 
 -- what an outcome says, given its values
@@ -53,33 +53,21 @@ unfolding said_by
 said_done values (refused r) vs h = let z : ◌≡◌ {A = ℕ} 0 1 = cc in absurd (omega arith)
 said_done values (done a cs) vs h = (a, cs, refl, cc)
 
--- the maps: a new slot
-created_said_lem : (o : Outcome ℕ) → created_said (create_answer o) ≡ said_by one_number o
-unfolding created_said create_answer said_by
-created_said_lem (refused r) = refl
-created_said_lem (done s cs) = refl
-
--- a count
-audit_said_lem : (o : Outcome ℕ) → audit_said (audit_answer o) ≡ said_by one_number o
-unfolding audit_said audit_answer said_by
-audit_said_lem (refused r) = refl
-audit_said_lem (done n cs) = refl
+-- the maps: a length, a count of live slots, or a new slot
+value_said_lem : (o : Outcome ℕ) → value_said (answer_of o) ≡ said_by one_number o
+unfolding value_said answer_of said_by
+value_said_lem (refused r) = refl
+value_said_lem (done n cs) = refl
 
 -- a change
-changed_said_lem : (o : Outcome (Unit {0})) → changed_said (change_answer o) ≡ said_by no_number o
-unfolding changed_said change_answer said_by
-changed_said_lem (refused r) = refl
-changed_said_lem (done v cs) = refl
-
--- a length
-length_said_lem : (o : Outcome ℕ) → length_said (length_answer o) ≡ said_by one_number o
-unfolding length_said length_answer said_by
-length_said_lem (refused r) = refl
-length_said_lem (done n cs) = refl
+done_said_lem : (o : Outcome (Unit {0})) → done_said (answer_of o) ≡ said_by no_number o
+unfolding done_said answer_of said_by
+done_said_lem (refused r) = refl
+done_said_lem (done v cs) = refl
 
 -- bytes read
-read_said : (o : Outcome (List ℕ)) → said_with (finished_said (finish_answer o)) (read_out o []) ≡ said_by all_bytes o
-unfolding said_with finished_said finish_answer read_out said_by
+read_said : (o : Outcome (List ℕ)) → said_with (done_said (finish_answer o)) (read_out o []) ≡ said_by all_bytes o
+unfolding said_with done_said finish_answer read_out said_by
 read_said (refused r) = refl
 read_said (done d cs) = refl
 
@@ -93,27 +81,27 @@ leaf_said_lem e P (done v cs) = refl
 module _ (e : Edition) (S : Store) where
   pub says_create : says e S create ≡ said_by one_number (create_call e S.pool S.records)
   unfolding says
-  says_create = created_said_lem _
+  says_create = value_said_lem _
 
   pub says_audit : says e S audit ≡ said_by one_number (audit_call e S.pool S.records)
   unfolding says
-  says_audit = audit_said_lem _
+  says_audit = value_said_lem _
 
   pub says_write : (r offset : ℕ) (d : List ℕ) → says e S (write r offset d) ≡ said_by no_number (write_call e S.pool S.records r offset d)
   unfolding says
-  says_write r offset d = changed_said_lem _
+  says_write r offset d = done_said_lem _
 
   pub says_resize : (r len : ℕ) → says e S (resize r len) ≡ said_by no_number (resize_call e S.pool S.records r len)
   unfolding says
-  says_resize r len = changed_said_lem _
+  says_resize r len = done_said_lem _
 
   pub says_delete : (r : ℕ) → says e S (delete r) ≡ said_by no_number (delete_call e S.pool S.records r)
   unfolding says
-  says_delete r = changed_said_lem _
+  says_delete r = done_said_lem _
 
   pub says_length : (r : ℕ) → says e S (tell_length r) ≡ said_by one_number (length_call e S.pool S.records r)
   unfolding says
-  says_length r = length_said_lem _
+  says_length r = value_said_lem _
 
   pub says_read : (r offset size : ℕ) → says e S (read r offset size) ≡ said_by all_bytes (read_call e S.pool S.records r offset size)
   unfolding says

@@ -9,12 +9,13 @@ use Rattle.meaning.specs.declared.Edition.{Edition}
 use Rattle.meaning.specs.Edition.{Proper}
 use Rattle.meaning.specs.Bytes.{state}
 use Rattle.meaning.specs.Tree.{Blob, slots_of}
-use Rattle.meaning.specs.Refusals.{at}
+use Rattle.meaning.specs.Refusals.{at, number_of}
 use Rattle.meaning.specs.Walk.{fine, blob_check, pool_check}
 use Rattle.meaning.specs.Change.{Store}
 use Rattle.meaning.specs.Calls.{Outcome, refused, done, slots_in, sized, audit_call}
 use Rattle.meaning.specs.Answers.{yields, refuses, shown_part}
 use Rattle.meaning.specs.Run.{Call, audit, tell_length, read, show_leaf, says, run}
+use Rattle.meaning.specs.declared.Reason.{Reason}
 use Rattle.laws.proofs.Every.{Every, every_mem, mem_every}
 use Rattle.laws_history.proofs.Local.{Same}
 use Rattle.laws_history.proofs.Started.{blank, held, FromRun, run_slots}
@@ -44,16 +45,16 @@ module _ {A : Type 0} (e : Edition) (S : Store) (P* : List ℕ) (b : Blob) (o o*
       f.differs (every_mem (Same e P P*) all
       (subst (λ (l : List ℕ). Memᴰ f.slot l) (sym f.split) (in_middle f.before f.slot f.later))) in
       let t = x.other d in
-      let here = said_refused values o (at t.number t.first.slot) (sym h ∙ refused_said values* o* _ t.answer) in
+      let here = said_refused values o (at t.why t.first.slot) (sym h ∙ refused_said values* o* _ t.answer) in
       x.only (t.answer ∙ sym here))
       (each_or_first e P P* (slots_of b))
 
   -- otherwise refused, with the first slot that differs
   said_other : (AsItWas e P P* b → ⊥)
-      → (n s : ℕ) × demands.FirstOther e P P* b s × (4 ≤ n) × (n ≤ 7) × (said_by values* o* ≡ refuses (at n s))
+      → (why : Reason) × (s : ℕ) × demands.FirstOther e P P* b s × (4 ≤ number_of why) × (number_of why ≤ 7) × (said_by values* o* ≡ refuses (at why s))
   said_other d =
       let t = x.other (λ all. d (λ s m. every_mem (Same e P P*) all m)) in
-      (t.number, t.first.slot, first_other_lem e P P* b t.first, t.low, t.high, refused_said values* o* _ t.answer)
+      (t.why, t.first.slot, first_other_lem e P P* b t.first, t.low, t.high, refused_said values* o* _ t.answer)
 
   -- so the call tells both ways
   told_by : (c : Call) → says e S c ≡ said_by values o → says e (reader P* S) c ≡ said_by values* o* → Told e S P* b c
@@ -62,7 +63,7 @@ module _ {A : Type 0} (e : Edition) (S : Store) (P* : List ℕ) (b : Blob) (o o*
       (λ h s m. every_mem (Same e P P*) (said_only (sym is* ∙ h ∙ is)) m),
       (λ all. is* ∙ agree (mem_every (Same e P P*) (slots_of b) all) ∙ sym is),
     );
-    refuses = λ d. let (n, s, first, low, high, q) = said_other d in (n, s, first, low, high, is* ∙ q);
+    refuses = λ d. let (why, s, first, low, high, q) = said_other d in (why, s, first, low, high, is* ∙ q);
   }
 
 -- a shown leaf's answer, where the bytes shown are the same

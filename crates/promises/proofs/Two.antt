@@ -1,4 +1,5 @@
 -- Demand two, from the laws of shapes, of resizing, of calls that are done and of runs.
+use Rattle.std.specs.Prelude.{Result}
 use mathlib.Core.Path.{◌≡◌, refl, sym, ap, ap₂, subst, ◌∙◌}
 use mathlib.Core.Bool.{true}
 use mathlib.Core.List.{List, [], ◌∷◌, ◌++◌, map}
@@ -8,8 +9,8 @@ use borrow.Author.Tests.{ltb-false}
 use lib.Dec.{ltb}
 use lib.ListN.{length, get_or}
 use lib.Seq.{take-length}
+use Rattle.meaning.specs.declared.Refusal.{Refusal}
 use Rattle.meaning.specs.declared.Edition.{Edition}
-use Rattle.meaning.specs.declared.Finished.{Finished}
 use Rattle.meaning.specs.Lists.{part}
 use Rattle.meaning.specs.Edition.{Proper}
 use Rattle.meaning.specs.Bytes.{Cell}
@@ -20,6 +21,7 @@ use Rattle.meaning.specs.Change.{Change, Store}
 use Rattle.meaning.specs.Calls.{done, sized, rooted, reading, refuse_past, new_blocks, live, read_on, read_in, read_call}
 use Rattle.meaning.specs.Answers.{Reads, read_out, yields}
 use Rattle.meaning.specs.Run.{Call, audit, write, resize, tell_length, read, says, perform, run, book_of, blocks_of}
+use Rattle.meaning.specs.declared.Reason.TheVariants.{NotARoot, OutOfRange}
 use Rattle.laws.proofs.Numbers.{part_length}
 use Rattle.laws.proofs.Parts.{pasted_length, part_pasted}
 use Rattle.laws.proofs.Codec.{padded_length}
@@ -100,13 +102,13 @@ read_length : (e : Edition) (S : Store) (r offset size : ℕ) {d : List ℕ} {cs
 unfolding read_call read_in reading rooted read_on refuse_past length_of
 read_length e S r offset size h =
     let (o, w) = opened_done e S.pool S.records _ h in
-    let (t, v) = refuse_if_done _ 3 _ w in
+    let (t, v) = refuse_if_done _ NotARoot _ w in
     let (b, seen, f, u) = after_check_done (blob_at e S r) _ v in
-    let (fits, is) = refuse_if_done (ltb (length_of b) (offset + size)) 10 _ u in
+    let (fits, is) = refuse_if_done (ltb (length_of b) (offset + size)) OutOfRange _ u in
     ap length (sym (done_same is).0) ∙ part_length offset size (content_of b) (ltb-false (length_of b) (offset + size) fits)
 
 -- what a read says is what it leaves in the lent output
-read_filled : (e : Edition) (S : Store) (r offset size : ℕ) (d : List ℕ) → says e S (read r offset size) ≡ yields d → (x : Finished) (out out' : List ℕ)
+read_filled : (e : Edition) (S : Store) (r offset size : ℕ) (d : List ℕ) → says e S (read r offset size) ≡ yields d → (x : Result (Unit {0}) Refusal) (out out' : List ℕ)
     → Reads (read_call e S.pool S.records r offset size) x out out' → (out' ≡ d) × (length d ≡ size)
 unfolding read_out
 read_filled e S r offset size d h x out out' a =

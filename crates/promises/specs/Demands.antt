@@ -1,24 +1,24 @@
 -- The customer's three demands, in the words of document 01's definitions and of nothing else. Each record below is one demand, each field of it
 -- one sentence; crates/promises/proofs/Demands.antt shows all of them, as `demand_one`, `demand_two` and `demand_three`, of every proper edition.
 -- What call c answers on store S is `says e S c`: the number and values of the answer that the code gives, by the maps of Answers that `one_answer`
--- speaks of, such as `length_said (length_answer (length_call ..))`; a read's also has the bytes put in the output, show's the bytes shown.
-use Rattle.std.specs.Prelude.{◌≡◌, ◌↔◌, ◌⊎◌, true, false, ℕ, zero, suc, ◌+◌, ◌-◌, ◌^◌, ◌≤◌, ◌<◌, length, get_or, take, replicate}
+-- speaks of, such as `value_said (answer_of (length_call ..))`; a read's also has the bytes put in the output, show's the bytes shown.
+use Rattle.std.specs.Prelude.{◌≡◌, ◌↔◌, ◌⊎◌, true, false, ℕ, zero, suc, ◌+◌, ◌-◌, ◌^◌, ◌≤◌, ◌<◌, length, get_or, take, replicate, None, Result, Some}
 use mathlib.Core.List.{List, [], ◌∷◌, ◌++◌, map, Memᴰ}
+use Rattle.meaning.specs.declared.Reason.TheVariants.{BadRecord, NoRoom, NotARoot, OutOfRange, WornOut, WrongLengths}
 use Rattle.meaning.specs.Lists.{part, pasted, padded}
 use Rattle.meaning.specs.Bytes.{Cell, encoded, block, record_at, record_of, state, recorded, sound_record, last_version}
 use Rattle.meaning.specs.Tree.{Tree, Blob, root_of, content_of, leaves_of, cells_of, slots_of, length_of, Held, nothing, just, held}
 use Rattle.meaning.specs.Shape.{leaves_for, height_for, total, Shaped}
-use Rattle.meaning.specs.Refusals.{at, nowhere}
+use Rattle.meaning.specs.Refusals.{at, nowhere, number_of}
 use Rattle.meaning.specs.Walk.{Found, fault, fine, and_then, blob_check, pool_check}
 use Rattle.meaning.specs.Change.{Store}
 use Rattle.meaning.specs.Resize as resizing
 use Rattle.meaning.specs.Calls.{Outcome, slots_in, sized, usable, live, new_blocks, read_call, after_wipe}
-use Rattle.meaning.specs.Answers.{wipe_answer, data_start, Ends, Wipes, Reads, Said, yields, refuses, length_said, audit_said, created_said, changed_said, finished_said, leaf_said}
+use Rattle.meaning.specs.Answers.{wipe_answer, data_start, Ends, Wipes, Reads, Said, yields, refuses, value_said, done_said, leaf_said}
 use Rattle.meaning.specs.Run.{Call, create, audit, write, resize, delete, tell_length, read, show_leaf, says, perform, run, book_of, blocks_of}
 use Rattle.meaning.specs.declared.Edition.{Edition}
-use Rattle.meaning.specs.declared.Named.TheVariants.{Slot}
 use Rattle.meaning.specs.declared.Refusal.{Refusal}
-use Rattle.meaning.specs.declared.Finished.{Finished}
+use Rattle.meaning.specs.declared.Reason.{Reason}
 
 -- a store's slots, its two checks, and its usable free slots, rising
 abbrev pub slots_at : Edition → Store → ℕ
@@ -84,21 +84,21 @@ Worn S b = (s : ℕ) × Memᴰ s (slots_of b) × (last_version ≤ recorded S.re
 
 -- the table: call c is refused with q. Each case says when, and that none before it in the order holds.
 pub data Table (e : Edition) (S : Store) (c : Call) (q : Refusal) : Type 0 where
-  refusal_1 : sized e S.pool S.records ≡ false → q ≡ nowhere 1 → Table e S c q
+  refusal_1 : sized e S.pool S.records ≡ false → q ≡ nowhere WrongLengths → Table e S c q
   refusal_2 : (s : ℕ) → sized e S.pool S.records ≡ true → s < slots_at e S → sound_record (record_at S.records s) ≡ false
-      → ((t : ℕ) → t < s → sound_record (record_at S.records t) ≡ true) → q ≡ at 2 s → Table e S c q
-  refusal_3 : (r : ℕ) → Opened e S → named c ≡ r ∷ [] → (IsRoot e S r → ⊥) → q ≡ nowhere 3 → Table e S c q
+      → ((t : ℕ) → t < s → sound_record (record_at S.records t) ≡ true) → q ≡ at BadRecord s → Table e S c q
+  refusal_3 : (r : ℕ) → Opened e S → named c ≡ r ∷ [] → (IsRoot e S r → ⊥) → q ≡ nowhere NotARoot → Table e S c q
   refusals_4_to_9 : Opened e S → ((r : ℕ) → named c ≡ r ∷ [] → IsRoot e S r) → walked e S c ≡ fault q → Table e S c q
-  refusal_12_write : (r offset : ℕ) (d : List ℕ) (b : Blob) → c ≡ write r offset d → Met e S c r b → Worn S b → q ≡ nowhere 12 → Table e S c q
-  refusal_12_resize : (r len : ℕ) (b : Blob) → c ≡ resize r len → Met e S c r b → Worn S b → q ≡ nowhere 12 → Table e S c q
+  refusal_12_write : (r offset : ℕ) (d : List ℕ) (b : Blob) → c ≡ write r offset d → Met e S c r b → Worn S b → q ≡ nowhere WornOut → Table e S c q
+  refusal_12_resize : (r len : ℕ) (b : Blob) → c ≡ resize r len → Met e S c r b → Worn S b → q ≡ nowhere WornOut → Table e S c q
   refusal_10_write : (r offset : ℕ) (d : List ℕ) (b : Blob) → c ≡ write r offset d → Met e S c r b → (Worn S b → ⊥)
-      → length_of b < offset + length d → q ≡ nowhere 10 → Table e S c q
-  refusal_10_read : (r offset size : ℕ) (b : Blob) → c ≡ read r offset size → Met e S c r b → length_of b < offset + size → q ≡ nowhere 10 → Table e S c q
-  refusal_10_show : (r k : ℕ) (b : Blob) → c ≡ show_leaf r k → Met e S c r b → length (leaves_of b) ≤ k → q ≡ nowhere 10 → Table e S c q
+      → length_of b < offset + length d → q ≡ nowhere OutOfRange → Table e S c q
+  refusal_10_read : (r offset size : ℕ) (b : Blob) → c ≡ read r offset size → Met e S c r b → length_of b < offset + size → q ≡ nowhere OutOfRange → Table e S c q
+  refusal_10_show : (r k : ℕ) (b : Blob) → c ≡ show_leaf r k → Met e S c r b → length (leaves_of b) ≤ k → q ≡ nowhere OutOfRange → Table e S c q
   refusal_11_resize : (r len : ℕ) (b : Blob) → c ≡ resize r len → Met e S c r b → (Worn S b → ⊥) → length (free_at e S) < new_at e S len b
-      → q ≡ nowhere 11 → Table e S c q
+      → q ≡ nowhere NoRoom → Table e S c q
   refusal_11_create : (bs : List Blob) (seen : List ℕ) → c ≡ create → Opened e S → pool_at e S ≡ fine bs seen → length (free_at e S) < 1
-      → q ≡ nowhere 11 → Table e S c q
+      → q ≡ nowhere NoRoom → Table e S c q
 
 abbrev pub OneToOne : {X : Type 0} → (X → Said) → Type 0
 OneToOne {X} said = (a b : X) → said a ≡ said b → a ≡ b
@@ -106,18 +106,18 @@ OneToOne {X} said = (a b : X) → said a ≡ said b → a ≡ b
 pub record DemandOne (e : Edition) : Type 1 where
   -- every call ends with its result or a refusal, numbered 1 to 12
   pub ends : (S : Store) (c : Call) → ((vs : List ℕ) × (says e S c ≡ yields vs))
-      ⊎ ((q : Refusal) × (says e S c ≡ refuses q) × (1 ≤ q.number) × (q.number ≤ 12))
+      ⊎ ((q : Refusal) × (says e S c ≡ refuses q) × (1 ≤ number_of q.reason) × (number_of q.reason ≤ 12))
   -- given exactly when the table says
   pub exactly : (S : Store) (c : Call) (q : Refusal) → (says e S c ≡ refuses q) ↔ Table e S c q
   -- a walk's refusals are numbered 4 to 9, and name a slot
-  pub walks : (S : Store) (c : Call) (q : Refusal) → walked e S c ≡ fault q → (4 ≤ q.number) × (q.number ≤ 9) × ((s : ℕ) × (q.named ≡ Slot s))
+  pub walks : (S : Store) (c : Call) (q : Refusal) → walked e S c ≡ fault q → (4 ≤ number_of q.reason) × (number_of q.reason ≤ 9) × ((s : ℕ) × (q.named ≡ Some s))
   -- a refused call changes no byte
   pub untouched : (S : Store) (c : Call) (q : Refusal) → says e S c ≡ refuses q → perform e S c ≡ S
   -- nor does a refused read any byte of the lent output
-  pub unfilled : (S : Store) (r offset size : ℕ) (q : Refusal) → says e S (read r offset size) ≡ refuses q → (x : Finished) (out out' : List ℕ)
+  pub unfilled : (S : Store) (r offset size : ℕ) (q : Refusal) → says e S (read r offset size) ≡ refuses q → (x : Result (Unit {0}) Refusal) (out out' : List ℕ)
       → Reads (read_call e S.pool S.records r offset size) x out out' → out' ≡ out
   -- wipe checks 1 only
-  pub wipe : (S : Store) (q : Refusal) → (finished_said (wipe_answer e S.pool S.records) ≡ refuses q) ↔ (sized e S.pool S.records ≡ false) × (q ≡ nowhere 1)
+  pub wipe : (S : Store) (q : Refusal) → (done_said (wipe_answer e S.pool S.records) ≡ refuses q) ↔ (sized e S.pool S.records ≡ false) × (q ≡ nowhere WrongLengths)
   -- it leaves the pool all zeros, each record free, version 0, and as many of both as there were; refused, the store as it was
   pub wiping : (S : Store) → sized e S.pool S.records ≡ true
       → ((after_wipe e S).pool ≡ replicate (length S.pool) 0) × (length (after_wipe e S).records ≡ length S.records)
@@ -126,10 +126,10 @@ pub record DemandOne (e : Edition) : Type 1 where
   -- two outcomes that meet one promise are equal: answer, pool and records; answer and output
   pub one_end : {A X : Type 0} (say : Outcome A → X) (o : Outcome A) (P R : List ℕ) (x y : X) (P' R' P'' R'' : List ℕ)
       → Ends e say o P R x P' R' → Ends e say o P R y P'' R'' → (x ≡ y) × (P' ≡ P'') × (R' ≡ R'')
-  pub one_wipe : (P R : List ℕ) (x y : Finished) (P' R' P'' R'' : List ℕ) → Wipes e P R x P' R' → Wipes e P R y P'' R'' → (x ≡ y) × (P' ≡ P'') × (R' ≡ R'')
-  pub one_read : (o : Outcome (List ℕ)) (x y : Finished) (out out' out'' : List ℕ) → Reads o x out out' → Reads o y out out'' → (x ≡ y) × (out' ≡ out'')
+  pub one_wipe : (P R : List ℕ) (x y : Result (Unit {0}) Refusal) (P' R' P'' R'' : List ℕ) → Wipes e P R x P' R' → Wipes e P R y P'' R'' → (x ≡ y) × (P' ≡ P'') × (R' ≡ R'')
+  pub one_read : (o : Outcome (List ℕ)) (x y : Result (Unit {0}) Refusal) (out out' out'' : List ℕ) → Reads o x out out' → Reads o y out out'' → (x ≡ y) × (out' ≡ out'')
   -- and an answer is one of the paper's: no two answers have the same number and values
-  pub one_answer : OneToOne length_said × OneToOne audit_said × OneToOne created_said × OneToOne changed_said × OneToOne finished_said × OneToOne leaf_said
+  pub one_answer : OneToOne value_said × OneToOne done_said × OneToOne leaf_said
 
 -- DEMAND TWO. Each call gives exactly what document 01's definitions give: bytes, leaf and block counts, versions, slots taken and freed; a length
 -- has one shape only.
@@ -192,7 +192,7 @@ pub record DemandTwo (e : Edition) : Type 0 where
   pub gives_leaf : (S : Store) (r : ℕ) (b : Blob) → Finds e S r b → (k s : ℕ) (d : List ℕ) → k < length (leaves_of b)
       → get_or (leaves_of b) k (0, []) ≡ (s, d) → says e S (show_leaf r k) ≡ yields (data_start e s ∷ length d ∷ d)
   -- what a read says fills the whole lent output: as many bytes as were asked for
-  pub filled : (S : Store) (r offset size : ℕ) (d : List ℕ) → says e S (read r offset size) ≡ yields d → (x : Finished) (out out' : List ℕ)
+  pub filled : (S : Store) (r offset size : ℕ) (d : List ℕ) → says e S (read r offset size) ≡ yields d → (x : Result (Unit {0}) Refusal) (out out' : List ℕ)
       → Reads (read_call e S.pool S.records r offset size) x out out' → (out' ≡ d) × (length d ≡ size)
   -- each blob that the pool check finds, the blob check finds from its root
   pub alive : (S : Store) (bs : List Blob) (b : Blob) → Passes e S bs → Memᴰ b bs → Finds e S (root_of b) b
@@ -253,7 +253,7 @@ reader P* S = record { pool = P*; records = S.records }
 pub record Told (e : Edition) (S : Store) (P* : List ℕ) (b : Blob) (c : Call) : Type 0 where
   pub answers : (says e (reader P* S) c ≡ says e S c) ↔ AsItWas e S.pool P* b
   pub refuses : (AsItWas e S.pool P* b → ⊥)
-      → (n s : ℕ) × FirstOther e S.pool P* b s × (4 ≤ n) × (n ≤ 7) × (says e (reader P* S) c ≡ refuses (at n s))
+      → (why : Reason) × (s : ℕ) × FirstOther e S.pool P* b s × (4 ≤ number_of why) × (number_of why ≤ 7) × (says e (reader P* S) c ≡ refuses (at why s))
 
 -- each slot of pool P* holds zeros, or what some slot held at some moment of the run
 abbrev pub Filled : Edition → Store → List Call → List ℕ → Type 0

@@ -5,7 +5,7 @@ use mathlib.Core.List.{List, [], ◌∷◌, ◌++◌, Memᴰ}
 use Rattle.meaning.specs.Lists.{joined}
 use Rattle.meaning.specs.Bytes.{state}
 use Rattle.meaning.specs.Tree.{Blob}
-use Rattle.meaning.specs.Refusals.{at}
+use Rattle.meaning.specs.Refusals.{at, number_of}
 use Rattle.meaning.specs.Walk.{fine}
 use Rattle.meaning.specs.Change.{Store}
 use Rattle.meaning.specs.Calls.{sized}
@@ -14,6 +14,7 @@ use Rattle.meaning.specs.Run.{Call, tell_length, read, says, run}
 use Rattle.meaning.specs.Head.{open_head, pieces, sum}
 use Rattle.meaning.specs.declared.Edition.{Edition}
 use Rattle.meaning.specs.declared.Refusal.{Refusal}
+use Rattle.meaning.specs.declared.Reason.{Reason}
 use Rattle.promises.specs.Demands.{blob_at, AsItWas, FirstOther, reader, Filled}
 
 -- What opening a head on root r says: what length says, with its refusals, of which demand one speaks.
@@ -38,7 +39,7 @@ Next e S r n sizes k = (d : List ℕ) × (hands_out e S r (sizes ++ (k ∷ [])) 
 pub record HeadTold (e : Edition) (S : Store) (P* : List ℕ) (r : ℕ) (b : Blob) : Type 0 where
   pub answers : (sizes : List ℕ) → SameHead e S (reader P* S) r sizes ↔ AsItWas e S.pool P* b
   pub refuses : (AsItWas e S.pool P* b → ⊥)
-      → (n s : ℕ) × FirstOther e S.pool P* b s × (4 ≤ n) × (n ≤ 7) × (opens e (reader P* S) r ≡ refuses (at n s))
+      → (why : Reason) × (s : ℕ) × FirstOther e S.pool P* b s × (4 ≤ number_of why) × (number_of why ≤ 7) × (opens e (reader P* S) r ≡ refuses (at why s))
       × ((sizes : List ℕ) → joined (hands_out e (reader P* S) r sizes) ≡ [])
 
 pub record ReadingHead (e : Edition) : Type 0 where

@@ -1,2 +1,1 @@
-pub mod ChangeAsCall
 pub mod ChangesAtOne

@@ -1,77 +1,58 @@
 // A change of one blob at edition one, in rows with a place for each slot of the pool.
-ghost use Rattle.std.specs.Prelude.{◌≤◌};
+ghost use Rattle.std.specs.Prelude.{◌≡◌, ◌≤◌, List, ℕ, false};
 ghost use Rattle.meaning.specs.Edition.{one};
-ghost use Rattle.meaning.specs.Calls.{slots_in, resize_call};
-ghost use Rattle.meaning.specs.Answers.{change_answer, Ends};
+ghost use Rattle.meaning.specs.Refusals.{nowhere};
+ghost use Rattle.meaning.specs.declared.Reason.TheVariants.{WrongLengths};
+ghost use Rattle.meaning.specs.Calls.{Outcome, refused, slots_in, sized, delete_call, write_call, resize_call};
+ghost use Rattle.meaning.specs.Answers.{answer_of, Ends};
 ghost use Rattle.check_survey.specs.Reached.{Rows};
-ghost use Rattle.rows_change.specs.change.{change_call};
+ghost use Rattle.rows_change.specs.change.{no_delete, no_write, no_resize};
 
-use meaning::Changed;
+use meaning::Refusal;
 
-// What is to become of a blob.
-#[derive(Clone, Copy, Drop)]
-pub enum Change {
-    // Every block of it goes.
-    Delete,
-    // Bytes are put inside its length, from an offset on.
-    Write(u64),
-    // It gets another length.
-    Resize(u64),
+// What is to become of a blob: one of document 01's calls.
+pub trait Change: Drop {
+    ghost call: { Self → (P R : List ℕ) → Outcome (Unit {0}) };
+
+    // The call in rows that are lent. They stay four parameters: the calls take them one by one, and a struct of them would be taken apart here at once.
+    fn in_lent(
+        self,
+        pool: &mut [u8],
+        records: &mut [u8],
+        seen: &mut [u8],
+        row: &mut [u32],
+        heights: &mut [u8],
+        firsts: &mut [u32],
+    ) -> Result<(), Refusal>
+        requires { Rows one pool.old seen.old row.old heights.old firsts.old }
+        ensures { Ends one answer_of (call self pool.old records.old) pool.old records.old result pool.new records.new };
+
+    // Where the lengths are wrong, it is refused with 1.
+    ghost barred: { (s : Self) (P R : List ℕ) → sized one P R ≡ false → call s P R ≡ refused (nowhere WrongLengths) };
 }
 
-// A resize in rows that are lent, with room for three drafts.
-fn resize_lent(
-    pool: &mut [u8],
-    records: &mut [u8],
-    seen: &mut [u8],
-    row: &mut [u32],
-    heights: &mut [u8],
-    firsts: &mut [u32],
-    root: u64,
-    len: u64,
-) -> Changed
-    requires { Rows one pool.old seen.old row.old heights.old firsts.old }
-    ensures { Ends one change_answer (resize_call one pool.old records.old root len) pool.old records.old result pool.new records.new }
-{
-    let e = meaning::edition_one();
-    let mut kept = [0u8; 64];
-    let mut payload = [0u8; 48];
-    let mut scratch = [0u8; 64];
-    call_resize::resize_call(
-        e,
-        pool,
-        records,
-        seen,
-        row,
-        heights,
-        firsts,
-        &mut kept,
-        &mut payload,
-        &mut scratch,
-        root,
-        len,
-    )
+// Every block of it goes.
+#[derive(Drop)]
+pub struct Delete {
+    pub root: u64,
 }
 
-// A change in rows that are lent.
-fn in_lent(
-    pool: &mut [u8],
-    records: &mut [u8],
-    seen: &mut [u8],
-    row: &mut [u32],
-    heights: &mut [u8],
-    firsts: &mut [u32],
-    root: u64,
-    change: Change,
-    src: &[u8],
-) -> Changed
-    requires { Rows one pool.old seen.old row.old heights.old firsts.old }
-    ensures { Ends one change_answer (change_call one pool.old records.old root change src.now) pool.old records.old result pool.new records.new }
-{
-    let e = meaning::edition_one();
-    let mut scratch = [0u8; 64];
-    match change {
-        Change::Delete => call_delete::delete_call(
+impl Change for Delete {
+    ghost call = { λ s P R. delete_call one P R s.root };
+
+    // In rows that are lent, with room for one block.
+    fn in_lent(
+        self,
+        pool: &mut [u8],
+        records: &mut [u8],
+        seen: &mut [u8],
+        row: &mut [u32],
+        heights: &mut [u8],
+        firsts: &mut [u32],
+    ) -> Result<(), Refusal> {
+        let e = meaning::edition_one();
+        let mut scratch = [0u8; 64];
+        call_delete::delete_call(
             e,
             pool,
             records,
@@ -80,123 +61,120 @@ fn in_lent(
             heights,
             firsts,
             &mut scratch,
-            root,
-        ),
-        Change::Write(offset) => call_write::write_call(
-            e, pool, records, seen, row, heights, firsts, root, offset, src,
-        ),
-        Change::Resize(len) => resize_lent(pool, records, seen, row, heights, firsts, root, len),
+            self.root,
+        )
     }
+
+    ghost barred = { λ s P R. no_delete P R _ };
 }
 
-// In rows of 128 places.
-pub fn in_128(pool: &mut [u8], records: &mut [u8], root: u64, change: Change, src: &[u8]) -> Changed
-    requires { slots_in one pool.old ≤ 128 }
-    ensures { Ends one change_answer (change_call one pool.old records.old root change src.now) pool.old records.old result pool.new records.new }
-{
-    let mut seen = [0u8; 128];
-    let mut row = [0u32; 128];
-    let mut heights = [0u8; 128];
-    let mut firsts = [0u32; 128];
-    in_lent(
-        pool,
-        records,
-        &mut seen,
-        &mut row,
-        &mut heights,
-        &mut firsts,
-        root,
-        change,
-        src,
-    )
+// Bytes are put inside its length, from an offset on.
+#[derive(Drop)]
+pub struct Write<'a> {
+    pub root: u64,
+    pub offset: u64,
+    pub src: &'a [u8],
 }
 
-// In rows of 1,024 places.
-fn in_1024(pool: &mut [u8], records: &mut [u8], root: u64, change: Change, src: &[u8]) -> Changed
-    requires { slots_in one pool.old ≤ 1024 }
-    ensures { Ends one change_answer (change_call one pool.old records.old root change src.now) pool.old records.old result pool.new records.new }
-{
-    let mut seen = [0u8; 1024];
-    let mut row = [0u32; 1024];
-    let mut heights = [0u8; 1024];
-    let mut firsts = [0u32; 1024];
-    in_lent(
-        pool,
-        records,
-        &mut seen,
-        &mut row,
-        &mut heights,
-        &mut firsts,
-        root,
-        change,
-        src,
-    )
+impl<'a> Change for Write<'a> {
+    ghost call = { λ s P R. write_call one P R s.root s.offset s.src.now };
+
+    // In rows that are lent.
+    fn in_lent(
+        self,
+        pool: &mut [u8],
+        records: &mut [u8],
+        seen: &mut [u8],
+        row: &mut [u32],
+        heights: &mut [u8],
+        firsts: &mut [u32],
+    ) -> Result<(), Refusal> {
+        let e = meaning::edition_one();
+        let Write { root, offset, src } = self;
+        call_write::write_call(
+            e, pool, records, seen, row, heights, firsts, root, offset, src,
+        )
+    }
+
+    ghost barred = { λ s P R. no_write P R _ _ _ };
 }
 
-// In rows of 8,192 places.
-fn in_8192(pool: &mut [u8], records: &mut [u8], root: u64, change: Change, src: &[u8]) -> Changed
-    requires { slots_in one pool.old ≤ 8192 }
-    ensures { Ends one change_answer (change_call one pool.old records.old root change src.now) pool.old records.old result pool.new records.new }
-{
-    let mut seen = [0u8; 8192];
-    let mut row = [0u32; 8192];
-    let mut heights = [0u8; 8192];
-    let mut firsts = [0u32; 8192];
-    in_lent(
-        pool,
-        records,
-        &mut seen,
-        &mut row,
-        &mut heights,
-        &mut firsts,
-        root,
-        change,
-        src,
-    )
+// It gets another length.
+#[derive(Drop)]
+pub struct Resize {
+    pub root: u64,
+    pub len: u64,
 }
 
-// In rows of 65,536 places.
-fn in_65536(pool: &mut [u8], records: &mut [u8], root: u64, change: Change, src: &[u8]) -> Changed
-    requires { slots_in one pool.old ≤ 65536 }
-    ensures { Ends one change_answer (change_call one pool.old records.old root change src.now) pool.old records.old result pool.new records.new }
-{
-    let mut seen = [0u8; 65536];
-    let mut row = [0u32; 65536];
-    let mut heights = [0u8; 65536];
-    let mut firsts = [0u32; 65536];
-    in_lent(
-        pool,
-        records,
-        &mut seen,
-        &mut row,
-        &mut heights,
-        &mut firsts,
-        root,
-        change,
-        src,
-    )
+impl Change for Resize {
+    ghost call = { λ s P R. resize_call one P R s.root s.len };
+
+    // In rows that are lent, with room for three drafts.
+    fn in_lent(
+        self,
+        pool: &mut [u8],
+        records: &mut [u8],
+        seen: &mut [u8],
+        row: &mut [u32],
+        heights: &mut [u8],
+        firsts: &mut [u32],
+    ) -> Result<(), Refusal> {
+        let e = meaning::edition_one();
+        let mut kept = [0u8; 64];
+        let mut payload = [0u8; 48];
+        let mut scratch = [0u8; 64];
+        call_resize::resize_call(
+            e,
+            pool,
+            records,
+            seen,
+            row,
+            heights,
+            firsts,
+            &mut kept,
+            &mut payload,
+            &mut scratch,
+            self.root,
+            self.len,
+        )
+    }
+
+    ghost barred = { λ s P R. no_resize P R _ _ };
 }
 
-// In rows of 1,024, 8,192 or 65,536 places: the first of these sizes, from the given one on, that suffices.
-pub fn in_larger(
-    places: usize,
+// In rows of N places, in a frame of their own.
+#[inline(never)]
+fn in_places<const N: usize, C: Change>(
     pool: &mut [u8],
     records: &mut [u8],
-    root: u64,
-    change: Change,
-    src: &[u8],
-) -> Changed
-    requires { (1 ≤ places) × (slots_in one pool.old ≤ 65536) }
-    ensures { Ends one change_answer (change_call one pool.old records.old root change src.now) pool.old records.old result pool.new records.new }
+    change: C,
+) -> Result<(), Refusal>
+    requires { (slots_in one pool.old ≤ N) × (N ≤ 65536) }
+    ensures { Ends one answer_of (C.call change pool.old records.old) pool.old records.old result pool.new records.new }
 {
-    if places < rows_size::slots_of(pool) {
-        return in_larger(8 * places, pool, records, root, change, src);
+    let mut seen = [0u8; N];
+    let mut row = [0u32; N];
+    let mut heights = [0u8; N];
+    let mut firsts = [0u32; N];
+    change.in_lent(
+        pool,
+        records,
+        &mut seen,
+        &mut row,
+        &mut heights,
+        &mut firsts,
+    )
+}
+
+// In rows of the least size that suffices.
+pub fn in_rows<C: Change>(pool: &mut [u8], records: &mut [u8], change: C) -> Result<(), Refusal>
+    requires { slots_in one pool.old ≤ 65536 }
+    ensures { Ends one answer_of (C.call change pool.old records.old) pool.old records.old result pool.new records.new }
+{
+    match rows_size::slots_of(pool) {
+        0..=128 => in_places::<128, C>(pool, records, change),
+        129..=1024 => in_places::<1024, C>(pool, records, change),
+        1025..=8192 => in_places::<8192, C>(pool, records, change),
+        _ => in_places::<65536, C>(pool, records, change),
     }
-    if places == 1024 {
-        return in_1024(pool, records, root, change, src);
-    }
-    if places == 8192 {
-        return in_8192(pool, records, root, change, src);
-    }
-    in_65536(pool, records, root, change, src)
 }

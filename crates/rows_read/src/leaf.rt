@@ -7,7 +7,7 @@ ghost use Rattle.call_show.specs.place.{Lies};
 ghost use Rattle.check_gate.specs.Places.{Clear};
 
 use call_show::find;
-use meaning::Leaf;
+use meaning::Refusal;
 
 // In rows that are lent.
 fn in_lent(
@@ -17,7 +17,7 @@ fn in_lent(
     row: &mut [u32],
     root: u64,
     leaf: u64,
-) -> Leaf
+) -> Result<(usize, usize), Refusal>
     requires { Clear one pool.now seen.old × (slots_in one pool.now ≤ length row.old) }
     ensures value { result ≡ leaf_answer one (show_call one pool.now records.now root leaf) }
     ensures lies { Lies result (length pool.now) }
@@ -26,64 +26,33 @@ fn in_lent(
     find::find_leaf_call(e, pool, records, seen, row, root, leaf)
 }
 
-// In rows of 128 places.
-pub fn in_128(pool: &[u8], records: &[u8], root: u64, leaf: u64) -> Leaf
-    requires { slots_in one pool.now ≤ 128 }
+// In rows of N places, in a frame of their own.
+#[inline(never)]
+fn in_places<const N: usize>(
+    pool: &[u8],
+    records: &[u8],
+    root: u64,
+    leaf: u64,
+) -> Result<(usize, usize), Refusal>
+    requires { (slots_in one pool.now ≤ N) × (N ≤ 65536) }
     ensures value { result ≡ leaf_answer one (show_call one pool.now records.now root leaf) }
     ensures lies { Lies result (length pool.now) }
 {
-    let mut seen = [0u8; 128];
-    let mut row = [0u32; 128];
+    let mut seen = [0u8; N];
+    let mut row = [0u32; N];
     in_lent(pool, records, &mut seen, &mut row, root, leaf)
 }
 
-// In rows of 1,024 places.
-fn in_1024(pool: &[u8], records: &[u8], root: u64, leaf: u64) -> Leaf
-    requires { slots_in one pool.now ≤ 1024 }
-    ensures value { result ≡ leaf_answer one (show_call one pool.now records.now root leaf) }
-    ensures lies { Lies result (length pool.now) }
-{
-    let mut seen = [0u8; 1024];
-    let mut row = [0u32; 1024];
-    in_lent(pool, records, &mut seen, &mut row, root, leaf)
-}
-
-// In rows of 8,192 places.
-fn in_8192(pool: &[u8], records: &[u8], root: u64, leaf: u64) -> Leaf
-    requires { slots_in one pool.now ≤ 8192 }
-    ensures value { result ≡ leaf_answer one (show_call one pool.now records.now root leaf) }
-    ensures lies { Lies result (length pool.now) }
-{
-    let mut seen = [0u8; 8192];
-    let mut row = [0u32; 8192];
-    in_lent(pool, records, &mut seen, &mut row, root, leaf)
-}
-
-// In rows of 65,536 places.
-fn in_65536(pool: &[u8], records: &[u8], root: u64, leaf: u64) -> Leaf
+// In rows of the least size that suffices.
+pub fn in_rows(pool: &[u8], records: &[u8], root: u64, leaf: u64) -> Result<(usize, usize), Refusal>
     requires { slots_in one pool.now ≤ 65536 }
     ensures value { result ≡ leaf_answer one (show_call one pool.now records.now root leaf) }
     ensures lies { Lies result (length pool.now) }
 {
-    let mut seen = [0u8; 65536];
-    let mut row = [0u32; 65536];
-    in_lent(pool, records, &mut seen, &mut row, root, leaf)
-}
-
-// In rows of 1,024, 8,192 or 65,536 places: the first of these sizes, from the given one on, that suffices.
-pub fn in_larger(places: usize, pool: &[u8], records: &[u8], root: u64, leaf: u64) -> Leaf
-    requires { (1 ≤ places) × (slots_in one pool.now ≤ 65536) }
-    ensures value { result ≡ leaf_answer one (show_call one pool.now records.now root leaf) }
-    ensures lies { Lies result (length pool.now) }
-{
-    if places < rows_size::slots_of(pool) {
-        return in_larger(8 * places, pool, records, root, leaf);
+    match rows_size::slots_of(pool) {
+        0..=128 => in_places::<128>(pool, records, root, leaf),
+        129..=1024 => in_places::<1024>(pool, records, root, leaf),
+        1025..=8192 => in_places::<8192>(pool, records, root, leaf),
+        _ => in_places::<65536>(pool, records, root, leaf),
     }
-    if places == 1024 {
-        return in_1024(pool, records, root, leaf);
-    }
-    if places == 8192 {
-        return in_8192(pool, records, root, leaf);
-    }
-    in_65536(pool, records, root, leaf)
 }

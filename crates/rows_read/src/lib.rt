@@ -1,5 +1,5 @@
-// In which rows does a reading call run? In those of the least size that suffices. The function that chooses among the larger sizes calls itself
-// where one is too small: that keeps the compiler from putting the largest rows into the frame of every call.
+// In which rows does a reading call run? In those of the least size that suffices. The rows of each size stand in a frame of their own, which is in no
+// other function's: so a call does not pay for larger rows than its own.
 #![tactic(auto)]
 
 pub mod audit;

@@ -5,7 +5,7 @@ ghost use Rattle.meaning.specs.Calls.{slots_in, read_call};
 ghost use Rattle.meaning.specs.Answers.{Reads};
 ghost use Rattle.check_gate.specs.Places.{Clear};
 
-use meaning::Finished;
+use meaning::Refusal;
 
 // In rows that are lent.
 fn in_lent(
@@ -16,7 +16,7 @@ fn in_lent(
     root: u64,
     offset: u64,
     out: &mut [u8],
-) -> Finished
+) -> Result<(), Refusal>
     requires { Clear one pool.now seen.old × (slots_in one pool.now ≤ length row.old) }
     ensures { Reads (read_call one pool.now records.now root offset (length out.old)) result out.old out.new }
 {
@@ -24,66 +24,38 @@ fn in_lent(
     call_read::read_call(e, pool, records, seen, row, root, offset, out)
 }
 
-// In rows of 128 places.
-pub fn in_128(pool: &[u8], records: &[u8], root: u64, offset: u64, out: &mut [u8]) -> Finished
-    requires { slots_in one pool.now ≤ 128 }
-    ensures { Reads (read_call one pool.now records.now root offset (length out.old)) result out.old out.new }
-{
-    let mut seen = [0u8; 128];
-    let mut row = [0u32; 128];
-    in_lent(pool, records, &mut seen, &mut row, root, offset, out)
-}
-
-// In rows of 1,024 places.
-fn in_1024(pool: &[u8], records: &[u8], root: u64, offset: u64, out: &mut [u8]) -> Finished
-    requires { slots_in one pool.now ≤ 1024 }
-    ensures { Reads (read_call one pool.now records.now root offset (length out.old)) result out.old out.new }
-{
-    let mut seen = [0u8; 1024];
-    let mut row = [0u32; 1024];
-    in_lent(pool, records, &mut seen, &mut row, root, offset, out)
-}
-
-// In rows of 8,192 places.
-fn in_8192(pool: &[u8], records: &[u8], root: u64, offset: u64, out: &mut [u8]) -> Finished
-    requires { slots_in one pool.now ≤ 8192 }
-    ensures { Reads (read_call one pool.now records.now root offset (length out.old)) result out.old out.new }
-{
-    let mut seen = [0u8; 8192];
-    let mut row = [0u32; 8192];
-    in_lent(pool, records, &mut seen, &mut row, root, offset, out)
-}
-
-// In rows of 65,536 places.
-fn in_65536(pool: &[u8], records: &[u8], root: u64, offset: u64, out: &mut [u8]) -> Finished
-    requires { slots_in one pool.now ≤ 65536 }
-    ensures { Reads (read_call one pool.now records.now root offset (length out.old)) result out.old out.new }
-{
-    let mut seen = [0u8; 65536];
-    let mut row = [0u32; 65536];
-    in_lent(pool, records, &mut seen, &mut row, root, offset, out)
-}
-
-// In rows of 1,024, 8,192 or 65,536 places: the first of these sizes, from the given one on, that suffices.
-pub fn in_larger(
-    places: usize,
+// In rows of N places, in a frame of their own.
+#[inline(never)]
+fn in_places<const N: usize>(
     pool: &[u8],
     records: &[u8],
     root: u64,
     offset: u64,
     out: &mut [u8],
-) -> Finished
-    requires { (1 ≤ places) × (slots_in one pool.now ≤ 65536) }
+) -> Result<(), Refusal>
+    requires { (slots_in one pool.now ≤ N) × (N ≤ 65536) }
     ensures { Reads (read_call one pool.now records.now root offset (length out.old)) result out.old out.new }
 {
-    if places < rows_size::slots_of(pool) {
-        return in_larger(8 * places, pool, records, root, offset, out);
+    let mut seen = [0u8; N];
+    let mut row = [0u32; N];
+    in_lent(pool, records, &mut seen, &mut row, root, offset, out)
+}
+
+// In rows of the least size that suffices.
+pub fn in_rows(
+    pool: &[u8],
+    records: &[u8],
+    root: u64,
+    offset: u64,
+    out: &mut [u8],
+) -> Result<(), Refusal>
+    requires { slots_in one pool.now ≤ 65536 }
+    ensures { Reads (read_call one pool.now records.now root offset (length out.old)) result out.old out.new }
+{
+    match rows_size::slots_of(pool) {
+        0..=128 => in_places::<128>(pool, records, root, offset, out),
+        129..=1024 => in_places::<1024>(pool, records, root, offset, out),
+        1025..=8192 => in_places::<8192>(pool, records, root, offset, out),
+        _ => in_places::<65536>(pool, records, root, offset, out),
     }
-    if places == 1024 {
-        return in_1024(pool, records, root, offset, out);
-    }
-    if places == 8192 {
-        return in_8192(pool, records, root, offset, out);
-    }
-    in_65536(pool, records, root, offset, out)
 }

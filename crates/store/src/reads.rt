@@ -2,49 +2,46 @@
 ghost use Rattle.std.specs.Prelude.{◌≡◌, ◌+◌, length};
 ghost use Rattle.meaning.specs.Edition.{one};
 ghost use Rattle.meaning.specs.Calls.{length_call, read_call, show_call, audit_call};
-ghost use Rattle.meaning.specs.Answers.{length_answer, audit_answer, leaf_answer, Reads, shown_at, shown_part, shown_number, shown_slot};
+ghost use Rattle.meaning.specs.Answers.{answer_of, leaf_answer, Reads, shown_at, shown_part, shown_number, shown_slot};
 ghost use Rattle.call_show.specs.place.{Lies};
 
-use meaning::{Audit, Finished, Leaf, Length};
+use crate::check_lengths;
+use meaning::Refusal;
 
 // The length of a blob.
-pub fn length(pool: &[u8], records: &[u8], root: u64) -> Length
-    ensures { result ≡ length_answer (length_call one pool.now records.now root) }
+pub fn length(pool: &[u8], records: &[u8], root: u64) -> Result<u64, Refusal>
+    ensures { result ≡ answer_of (length_call one pool.now records.now root) }
 {
-    if !rows_size::is_sized(pool, records) {
-        return Length::Refused(meaning::refuse_nowhere(1));
-    }
-    if rows_size::slots_of(pool) <= rows_size::FEW {
-        return rows_read::length::in_128(pool, records, root);
-    }
-    rows_read::length::in_larger(rows_size::MORE, pool, records, root)
+    check_lengths(pool, records)?;
+    rows_read::length::in_rows(pool, records, root)
 }
 
 // The whole of out is filled from the offset on, or out is left as it is.
-pub fn read(pool: &[u8], records: &[u8], root: u64, offset: u64, out: &mut [u8]) -> Finished
+pub fn read(
+    pool: &[u8],
+    records: &[u8],
+    root: u64,
+    offset: u64,
+    out: &mut [u8],
+) -> Result<(), Refusal>
     ensures { Reads (read_call one pool.now records.now root offset (length out.old)) result out.old out.new }
 {
-    if !rows_size::is_sized(pool, records) {
-        return Finished::Refused(meaning::refuse_nowhere(1));
-    }
-    if rows_size::slots_of(pool) <= rows_size::FEW {
-        return rows_read::read::in_128(pool, records, root, offset, out);
-    }
-    rows_read::read::in_larger(rows_size::MORE, pool, records, root, offset, out)
+    check_lengths(pool, records)?;
+    rows_read::read::in_rows(pool, records, root, offset, out)
 }
 
 // Where a leaf's data bytes lie in the pool.
-pub fn find_leaf(pool: &[u8], records: &[u8], root: u64, leaf: u64) -> Leaf
+pub fn find_leaf(
+    pool: &[u8],
+    records: &[u8],
+    root: u64,
+    leaf: u64,
+) -> Result<(usize, usize), Refusal>
     ensures value { result ≡ leaf_answer one (show_call one pool.now records.now root leaf) }
     ensures lies { Lies result (length pool.now) }
 {
-    if !rows_size::is_sized(pool, records) {
-        return Leaf::Refused(meaning::refuse_nowhere(1));
-    }
-    if rows_size::slots_of(pool) <= rows_size::FEW {
-        return rows_read::leaf::in_128(pool, records, root, leaf);
-    }
-    rows_read::leaf::in_larger(rows_size::MORE, pool, records, root, leaf)
+    check_lengths(pool, records)?;
+    rows_read::leaf::in_rows(pool, records, root, leaf)
 }
 
 // A leaf's data bytes as they lie in the pool, at their own place there. A pointer is a block of memory and an offset in it: the part lies in the
@@ -63,30 +60,24 @@ pub fn show<'a>(
     ensures slot_after { slot.new ≡ shown_slot (show_call one pool.now records.now root leaf) }
 {
     match find_leaf(pool, records, root, leaf) {
-        Leaf::At(start, count) => {
+        Ok((start, count)) => {
             *number = 0;
             *slot = 0xFFFF_FFFF_FFFF_FFFF;
             let end = start + count;
             &pool[start..end]
         }
-        Leaf::Refused(r) => {
-            let named = r.named;
-            *number = r.number;
-            *slot = answers::slot_number(named);
+        Err(r) => {
+            *number = r.reason.number();
+            *slot = answers::slot_number(r.named);
             &pool[0..0]
         }
     }
 }
 
 // The count of live slots, if the whole pool is sound.
-pub fn audit(pool: &[u8], records: &[u8]) -> Audit
-    ensures { result ≡ audit_answer (audit_call one pool.now records.now) }
+pub fn audit(pool: &[u8], records: &[u8]) -> Result<u64, Refusal>
+    ensures { result ≡ answer_of (audit_call one pool.now records.now) }
 {
-    if !rows_size::is_sized(pool, records) {
-        return Audit::Refused(meaning::refuse_nowhere(1));
-    }
-    if rows_size::slots_of(pool) <= rows_size::FEW {
-        return rows_read::audit::in_128(pool, records);
-    }
-    rows_read::audit::in_larger(rows_size::MORE, pool, records)
+    check_lengths(pool, records)?;
+    rows_read::audit::in_rows(pool, records)
 }

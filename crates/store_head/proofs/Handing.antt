@@ -1,12 +1,12 @@
 -- The place and the output after an asking are the definition's; the place stays within 64 bits, since no asking takes it past the blob's length.
-use mathlib.Core.Path.{◌≡◌, sym, subst}
+use Rattle.std.specs.Prelude.{Err, Ok, Result}
+use Rattle.std.specs.Result.{result_unwrap_or}
+use mathlib.Core.Path.{◌≡◌, refl, sym, subst}
 use mathlib.Core.List.{List}
 use Prim.Native.Nat.{ℕ, ◌+◌, ◌^◌, ◌<◌}
 use native.Mathlib.Omega.{arith}
 use Rattle.meaning.specs.Edition.{one, Proper}
 use Rattle.meaning.specs.declared.Edition.{Edition}
-use Rattle.meaning.specs.declared.Length.{Length}
-use Rattle.meaning.specs.declared.Length.TheVariants.{Is, Refused}
 use Rattle.meaning.specs.declared.Refusal.{Refusal}
 use Rattle.meaning.specs.Head.{head_at, handed, moved, out_after}
 use Rattle.laws.proofs.Editions.{one_proper}
@@ -23,15 +23,12 @@ pub stays_word : (len place k c : ℕ) → len < 2 ^ 64 → place < 2 ^ 64 → c
 unfolding handed
 stays_word len place k c l m ec = omega arith
 
-pub bytes_there : (a : Length) (n : ℕ) → a ≡ Is n → n ≡ bytes_of a
+pub bytes_or_none : (a : Result ℕ Refusal) → result_unwrap_or a 0 ≡ bytes_of a
 unfolding bytes_of
-bytes_there a n ea = rw ea
+bytes_or_none (Ok n) = refl
+bytes_or_none (Err r) = refl
 
-pub bytes_none : (a : Length) (q : Refusal) → a ≡ Refused q → 0 ≡ bytes_of a
-unfolding bytes_of
-bytes_none a q ea = rw ea
-
-module _ (root place : ℕ) (a : Length) (n : ℕ) (en : n ≡ bytes_of a) where
+module _ (root place : ℕ) (a : Result ℕ Refusal) (n : ℕ) (en : n ≡ bytes_of a) where
   pub place_moves : (k c : ℕ) → c ≡ handed n place k → place + c ≡ place_after root place a k
   unfolding place_after moved head_in
   place_moves k c ec = rw (ec, en)

@@ -1,25 +1,24 @@
 -- A head that holds its pool, and the definition's head that it is.
-use Rattle.std.specs.Prelude.{ℕ, List}
+use Rattle.std.specs.Prelude.{ℕ, List, Err, Ok, Result}
+use Rattle.meaning.specs.declared.Refusal.{Refusal}
 use Rattle.meaning.specs.Edition.{one}
 use Rattle.meaning.specs.Head as definition
 use Rattle.meaning.specs.Head.{head_at, moved, out_after}
-use Rattle.meaning.specs.declared.Length.{Length}
-use Rattle.meaning.specs.declared.Length.TheVariants.{Is, Refused}
 use Rattle.store_head.specs.declared.Head.{Head}
 
 -- how many bytes the blob has, by what opening answered; none, where it was refused
-unfoldable pub bytes_of : Length → ℕ
-bytes_of (Is n) = n
-bytes_of (Refused r) = 0
+unfoldable pub bytes_of : Result ℕ Refusal → ℕ
+bytes_of (Ok n) = n
+bytes_of (Err r) = 0
 
-unfoldable pub head_in : (root place : ℕ) → Length → definition.Head
+unfoldable pub head_in : (root place : ℕ) → Result ℕ Refusal → definition.Head
 head_in root place a = head_at root place (bytes_of a)
 
 -- the place after so many bytes were asked for, and the lent output then
-unfoldable pub place_after : (root place : ℕ) → Length → (asked : ℕ) → ℕ
+unfoldable pub place_after : (root place : ℕ) → Result ℕ Refusal → (asked : ℕ) → ℕ
 place_after root place a asked = (moved (head_in root place a) asked).place
 
-unfoldable pub out_from : (P : List ℕ) → (root place : ℕ) → Length → (out : List ℕ) → List ℕ
+unfoldable pub out_from : (P : List ℕ) → (root place : ℕ) → Result ℕ Refusal → (out : List ℕ) → List ℕ
 out_from P root place a out = out_after one P (head_in root place a) out
 
 -- the head after that

@@ -6,18 +6,18 @@
 ghost use Rattle.std.specs.Prelude.{◌≡◌, ◌+◌, ◌^◌, ◌<◌, length};
 ghost use Rattle.meaning.specs.Edition.{one};
 ghost use Rattle.meaning.specs.Calls.{length_call};
-ghost use Rattle.meaning.specs.Answers.{length_answer};
+ghost use Rattle.meaning.specs.Answers.{answer_of};
 ghost use Rattle.meaning.specs.Head.{head_at, handed, out_after};
 ghost use Rattle.store_head.specs.Held.{bytes_of, place_after, out_from, head_after};
 
-use meaning::Length;
+use meaning::Refusal;
 
 #[derive(Clone, Copy, Drop)]
 pub struct Head<'a> {
     pub pool: &'a [u8],
     pub root: u64,
     pub place: u64,
-    pub answer: Length,
+    pub answer: Result<u64, Refusal>,
 }
 
 // The next bytes of a blob of that root and length, from a place on: as many as out takes or as remain; the rest of out stays. Answers how many. Any pool
@@ -32,17 +32,20 @@ pub fn next_bytes(pool: &[u8], root: u64, len: u64, place: u64, out: &mut [u8]) 
 }
 
 // How many bytes the blob has; none, where opening was refused.
-fn bytes_of(answer: Length) -> u64
+fn bytes_of(answer: Result<u64, Refusal>) -> u64
     ensures { result ≡ bytes_of answer }
 {
-    match answer {
-        Length::Is(n) => n,
-        Length::Refused(_) => 0,
-    }
+    answer.unwrap_or(0)
 }
 
 // The next bytes by what opening answered, and the place behind them.
-fn next_place(pool: &[u8], root: u64, place: u64, answer: Length, out: &mut [u8]) -> u64
+fn next_place(
+    pool: &[u8],
+    root: u64,
+    place: u64,
+    answer: Result<u64, Refusal>,
+    out: &mut [u8],
+) -> u64
     ensures { (result ≡ place_after root place answer (length out.old)) × (out.new ≡ out_from pool.now root place answer out.old) }
 {
     let len = bytes_of(answer);
@@ -51,7 +54,7 @@ fn next_place(pool: &[u8], root: u64, place: u64, answer: Length, out: &mut [u8]
 
 // The blob check, once, with the refusals of length; the head stands at place 0.
 pub fn open<'a>(pool: &'a [u8], records: &[u8], root: u64) -> Head<'a>
-    ensures { (result.pool ≡ pool.entry) × (result.root ≡ root) × (result.place ≡ 0) × (result.answer ≡ length_answer (length_call one pool.now records.now root)) }
+    ensures { (result.pool ≡ pool.entry) × (result.root ≡ root) × (result.place ≡ 0) × (result.answer ≡ answer_of (length_call one pool.now records.now root)) }
 {
     let answer = store::reads::length(pool, records, root);
     Head {
@@ -77,7 +80,7 @@ pub fn next<'a>(h: Head<'a>, out: &mut [u8]) -> Head<'a>
 
 // The first bytes of a blob, by a head that is opened for them, and how many they are: for whoever has no head in hand.
 pub fn first_bytes(pool: &[u8], records: &[u8], root: u64, out: &mut [u8]) -> u64
-    ensures { (result ≡ place_after root 0 (length_answer (length_call one pool.now records.now root)) (length out.old)) × (out.new ≡ out_from pool.now root 0 (length_answer (length_call one pool.now records.now root)) out.old) }
+    ensures { (result ≡ place_after root 0 (answer_of (length_call one pool.now records.now root)) (length out.old)) × (out.new ≡ out_from pool.now root 0 (answer_of (length_call one pool.now records.now root)) out.old) }
 {
     let h = next(open(pool, records, root), out);
     h.place

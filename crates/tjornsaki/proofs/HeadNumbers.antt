@@ -1,5 +1,6 @@
 -- The four numbers of a head. What the functions leave in them is the definition's head again: opened, it stands at the blob's start, or hands out nothing;
 -- after an asking it stands behind what was handed out.
+use Rattle.std.specs.Prelude.{Err, Ok, Result}
 use mathlib.Core.Path.{◌≡◌, ap, ◌∙◌, sym}
 use mathlib.Core.List.{List, [], ◌∷◌}
 use Prim.Native.Nat.{ℕ, ◌+◌, ◌-◌, min}
@@ -9,29 +10,27 @@ use lib.ListN.{length, get_or, set}
 use Rattle.meaning.specs.Lists.{pick, joined}
 use Rattle.meaning.specs.Change.{Change}
 use Rattle.meaning.specs.Calls.{Outcome, refused, done, length_call}
-use Rattle.meaning.specs.Answers.{length_answer, length_said}
+use Rattle.meaning.specs.Answers.{answer_of, value_said}
 use Rattle.meaning.specs.Head.{head_at, head_of, open_head, height_at, handed, moved, out_after, pieces, sum}
 use Rattle.meaning.specs.declared.Edition.{Edition}
-use Rattle.meaning.specs.declared.Length.{Length}
-use Rattle.meaning.specs.declared.Length.TheVariants.{Is, Refused}
 use Rattle.meaning.specs.declared.Refusal.{Refusal}
 use Rattle.laws.proofs.Pieces.{pieces_are, piece_none}
 use Rattle.answers.specs.Numbers.{value_numbers, numbers}
-use Rattle.answers.proofs.NumbersOfCalls.{length_numbers_lem}
+use Rattle.answers.proofs.NumbersOfCalls.{told_numbers_lem}
 use Rattle.tjornsaki.specs.heads.{head_numbers, open_length, head_from, OpenNumbers, NextNumbers}
 
 -- a head that is opened
-pub head_opened : (root n : ℕ) (x : Length) → x ≡ Is n → root ∷ 0 ∷ n ∷ 1 ∷ [] ≡ head_numbers root x
+pub head_opened : (root n : ℕ) (x : Result ℕ Refusal) → x ≡ Ok n → root ∷ 0 ∷ n ∷ 1 ∷ [] ≡ head_numbers root x
 unfolding head_numbers
 head_opened root n x e = rw e
 
-pub head_refused : (root : ℕ) (q : Refusal) (x : Length) → x ≡ Refused q → 0 ∷ 0 ∷ 0 ∷ 0 ∷ [] ≡ head_numbers root x
+pub head_refused : (root : ℕ) (q : Refusal) (x : Result ℕ Refusal) → x ≡ Err q → 0 ∷ 0 ∷ 0 ∷ 0 ∷ [] ≡ head_numbers root x
 unfolding head_numbers
 head_refused root q x e = rw e
 
-pub open_numbers : (o : Outcome ℕ) (root : ℕ) (x : Length) (a h : List ℕ) → x ≡ length_answer o → h ≡ head_numbers root x → a ≡ numbers (length_said x)
+pub open_numbers : (o : Outcome ℕ) (root : ℕ) (x : Result ℕ Refusal) (a h : List ℕ) → x ≡ answer_of o → h ≡ head_numbers root x → a ≡ numbers (value_said x)
     → OpenNumbers o root a h
-open_numbers o root x a h e eh ea = record { answered = length_numbers_lem a o x e ea; opened = eh ∙ ap (head_numbers root) e }
+open_numbers o root x a h e eh ea = record { answered = told_numbers_lem a o x e ea; opened = eh ∙ ap (head_numbers root) e }
 
 -- the length of one that is open, and of another
 pub length_open : (n k : ℕ) → k ≡ 1 → n ≡ open_length n k
@@ -52,13 +51,13 @@ module _ (head out : List ℕ) (n : ℕ) (en : n ≡ open_length (get_or head 2 
 
 -- the head that opening leaves for C: where it is done, the definition's opened head; refused, one that hands out nothing, whatever is asked
 pub opened_is : (e : Edition) (P R : List ℕ) (r n : ℕ) {cs : List Change} → length_call e P R r ≡ done n cs
-    → head_from (head_numbers r (length_answer (length_call e P R r))) ≡ open_head e P R r
-unfolding head_from head_numbers open_length pick open_head head_of length_answer
+    → head_from (head_numbers r (answer_of (length_call e P R r))) ≡ open_head e P R r
+unfolding head_from head_numbers open_length pick open_head head_of answer_of
 opened_is e P R r n h = rw h
 
 pub refused_hands_none : (e : Edition) (P R : List ℕ) (r : ℕ) (q : Refusal) → length_call e P R r ≡ refused q → (sizes : List ℕ)
-    → joined (pieces e P (head_from (head_numbers r (length_answer (length_call e P R r)))) sizes) ≡ []
-unfolding head_from head_numbers open_length pick length_answer
+    → joined (pieces e P (head_from (head_numbers r (answer_of (length_call e P R r)))) sizes) ≡ []
+unfolding head_from head_numbers open_length pick answer_of
 refused_hands_none e P R r q h sizes =
     let z : min (sum sizes) (0 - 0) ≡ 0 = omega arith in
     rw h (pieces_are e P 0 0 sizes 0 ∙ rw z (piece_none e P (height_at e P 0) 0 0))

@@ -2,7 +2,7 @@
 ghost use Rattle.meaning.specs.Edition.{one};
 ghost use Rattle.meaning.specs.Calls.{create_call, write_call, resize_call, delete_call};
 ghost use Rattle.meaning.specs.Answers.{Ends};
-ghost use Rattle.answers.specs.Numbers.{create_numbers, change_numbers, WipeNumbers};
+ghost use Rattle.answers.specs.Numbers.{told_numbers, change_numbers, WipeNumbers};
 
 // Pool all zeros, each record free at version 0.
 #[unsafe(no_mangle)]
@@ -10,16 +10,16 @@ pub extern "C" fn tj_wipe(pool: &mut [u8], records: &mut [u8], answer: &mut [u64
     ensures { WipeNumbers one pool.old records.old answer.new pool.new records.new }
 {
     let x = store::changes::wipe(pool, records);
-    answers::put_finished(answer, x)
+    answers::put_done(answer, x)
 }
 
 // A new empty blob, in the lowest usable free slot.
 #[unsafe(no_mangle)]
 pub extern "C" fn tj_create(pool: &mut [u8], records: &mut [u8], answer: &mut [u64; 8])
-    ensures { Ends one create_numbers (create_call one pool.old records.old) pool.old records.old answer.new pool.new records.new }
+    ensures { Ends one told_numbers (create_call one pool.old records.old) pool.old records.old answer.new pool.new records.new }
 {
     let x = store::changes::create(pool, records);
-    answers::put_created(answer, x)
+    answers::put_value(answer, x)
 }
 
 // Bytes put inside the present length, from the offset on.
@@ -35,7 +35,7 @@ pub extern "C" fn tj_write(
     ensures { Ends one change_numbers (write_call one pool.old records.old root offset src.now) pool.old records.old answer.new pool.new records.new }
 {
     let x = store::changes::write(pool, records, root, offset, src);
-    answers::put_changed(answer, x)
+    answers::put_done(answer, x)
 }
 
 // A blob gets that length.
@@ -50,7 +50,7 @@ pub extern "C" fn tj_resize(
     ensures { Ends one change_numbers (resize_call one pool.old records.old root len) pool.old records.old answer.new pool.new records.new }
 {
     let x = store::changes::resize(pool, records, root, len);
-    answers::put_changed(answer, x)
+    answers::put_done(answer, x)
 }
 
 // Every block of a blob goes.
@@ -59,5 +59,5 @@ pub extern "C" fn tj_delete(pool: &mut [u8], records: &mut [u8], root: u64, answ
     ensures { Ends one change_numbers (delete_call one pool.old records.old root) pool.old records.old answer.new pool.new records.new }
 {
     let x = store::changes::delete(pool, records, root);
-    answers::put_changed(answer, x)
+    answers::put_done(answer, x)
 }

@@ -4,15 +4,15 @@ ghost use Rattle.meaning.specs.Edition.{one};
 ghost use Rattle.meaning.specs.Calls.{length_call};
 ghost use Rattle.tjornsaki.specs.heads.{head_numbers, open_length, OpenNumbers, NextNumbers};
 
-use meaning::Length;
+use meaning::Refusal;
 
 // The numbers of a head that is opened.
-fn put_head(head: &mut [u64; 4], root: u64, x: Length)
+fn put_head(head: &mut [u64; 4], root: u64, x: Result<u64, Refusal>)
     ensures { head.new ≡ head_numbers root x }
 {
     match x {
-        Length::Is(n) => *head = [root, 0, n, 1],
-        Length::Refused(_) => *head = [0, 0, 0, 0],
+        Ok(n) => *head = [root, 0, n, 1],
+        Err(_) => *head = [0, 0, 0, 0],
     }
 }
 
@@ -36,7 +36,7 @@ pub extern "C" fn tj_open_head(
 {
     let x = store::reads::length(pool, records, root);
     put_head(head, root, x);
-    answers::put_length(answer, x)
+    answers::put_value(answer, x)
 }
 
 // The next bytes, as many as out takes or as remain; the rest of out stays. The head's place rises by as many.

@@ -1,50 +1,44 @@
-// For the programs of test vectors: each reading call of the store, run once and printed.
+// For the programs of test vectors: each reading call of the store, run once, and its answer printed.
 use crate::pieces;
+use std::io::{self, Write};
 use store::reads;
-use vectors_print::{answers, heads, say};
-use vectors_script::text::Command;
+use vectors_print::say::Hex;
+use vectors_print::{answers, say};
+use vectors_script::command::Reading;
+use vectors_script::store::Store;
 
-fn read_into(c: Command, pool: &[u8], records: &[u8], out: &mut [u8]) {
-    answers::finished(reads::read(pool, records, c.a, c.b, out));
-    say::hex(out);
-    say::end();
+// At most 64 bytes are read. The output holds EE before the call.
+fn read<W: Write>(out: &mut W, store: &Store, root: u64, offset: u64, size: u64) -> io::Result<()> {
+    let mut buffer = [0xEEu8; 64];
+    let bytes = &mut buffer[..size.min(64) as usize];
+    let (pool, records) = store.slices();
+    answers::done(out, reads::read(pool, records, root, offset, bytes))?;
+    let bytes = Hex(bytes);
+    write!(out, " {bytes}")
 }
 
-// The output holds EE before the call. At most 64 bytes are read.
-fn read(c: Command, pool: &[u8], records: &[u8]) {
-    let mut out = [0xEEu8; 64];
-    let size = c.c as usize;
-    if size <= 64 {
-        read_into(c, pool, records, &mut out[0..size]);
+// The lent numbers hold 77 before the call. The call lends 2^64 - 1 where it names no slot: so its contract says, which stays.
+fn show<W: Write>(out: &mut W, store: &Store, root: u64, leaf: u64) -> io::Result<()> {
+    let (pool, records) = store.slices();
+    let mut number = 77;
+    let mut slot = 77;
+    let part = Hex(reads::show(pool, records, root, leaf, &mut number, &mut slot));
+    say::refusal(out, number, (slot != u64::MAX).then_some(slot))?;
+    write!(out, " {part}")
+}
+
+// A call that reads the store.
+pub fn call<W: Write>(out: &mut W, call: Reading, store: &Store) -> io::Result<()> {
+    let (pool, records) = store.slices();
+    match call {
+        Reading::Length { root } => answers::value(out, reads::length(pool, records, root)),
+        Reading::Read { root, offset, size } => read(out, store, root, offset, size),
+        Reading::Find { root, leaf } => answers::leaf(
+            out,
+            reads::find_leaf(pool, records, root, leaf),
+        ),
+        Reading::Show { root, leaf } => show(out, store, root, leaf),
+        Reading::Head { root, sizes } => pieces::hand_out(out, store, root, sizes),
+        Reading::Audit => answers::value(out, reads::audit(pool, records)),
     }
-}
-
-// The lent numbers hold 77 before the call.
-fn show(c: Command, pool: &[u8], records: &[u8]) {
-    let mut number: u64 = 77;
-    let mut slot: u64 = 77;
-    let part = reads::show(pool, records, c.a, c.b, &mut number, &mut slot);
-    say::number(number);
-    say::slot_number(slot);
-    say::hex(part);
-    say::end();
-}
-
-fn run(c: Command, pool: &[u8], records: &[u8]) {
-    let name = c.name;
-    match name {
-        b'L' => answers::length(reads::length(pool, records, c.a)),
-        b'R' => read(c, pool, records),
-        b'F' => answers::leaf(reads::find_leaf(pool, records, c.a, c.b)),
-        b'S' => show(c, pool, records),
-        b'P' => pieces::hand_out(c, pool, records),
-        b'A' => answers::audit(reads::audit(pool, records)),
-        _ => {}
-    }
-}
-
-// A command that reads the store.
-pub fn call(label: &[u8], c: Command, pool: &[u8], records: &[u8]) {
-    heads::read(label, c);
-    run(c, pool, records);
 }

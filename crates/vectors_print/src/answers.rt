@@ -1,74 +1,28 @@
 // For the programs of test vectors: each call's answer, printed.
 use crate::say;
-use meaning::{Audit, Changed, Created, Finished, Leaf, Length};
+use meaning::Refusal;
+use std::io::{self, Write};
 
-// What a head hands out follows it on the line.
-pub fn opened(answer: Length) {
+// A call's value, or its refusal: a length, how many slots are live, or a new blob's root.
+pub fn value<W: Write>(out: &mut W, answer: Result<u64, Refusal>) -> io::Result<()> {
     match answer {
-        Length::Is(n) => {
-            say::passed();
-            say::number(n);
-        }
-        Length::Refused(r) => say::refused(r),
+        Ok(n) => write!(out, " 0 - {n}"),
+        Err(r) => say::refused(out, r),
     }
 }
 
-pub fn length(answer: Length) {
-    opened(answer);
-    say::end();
-}
-
-// Read's output follows it on the line.
-pub fn finished(answer: Finished) {
+// How a call without a value ends. Read's output follows it on the line.
+pub fn done<W: Write>(out: &mut W, answer: Result<(), Refusal>) -> io::Result<()> {
     match answer {
-        Finished::Done => say::passed(),
-        Finished::Refused(r) => say::refused(r),
+        Ok(()) => say::passed(out),
+        Err(r) => say::refused(out, r),
     }
 }
 
-pub fn leaf(answer: Leaf) {
+// Where a leaf starts in the pool, and how many bytes it has.
+pub fn leaf<W: Write>(out: &mut W, answer: Result<(usize, usize), Refusal>) -> io::Result<()> {
     match answer {
-        Leaf::At(start, count) => {
-            say::passed();
-            say::number(start as u64);
-            say::number(count as u64);
-        }
-        Leaf::Refused(r) => say::refused(r),
+        Ok((start, count)) => write!(out, " 0 - {start} {count}"),
+        Err(r) => say::refused(out, r),
     }
-    say::end();
-}
-
-pub fn audit(answer: Audit) {
-    match answer {
-        Audit::Live(n) => {
-            say::passed();
-            say::number(n);
-        }
-        Audit::Refused(r) => say::refused(r),
-    }
-    say::end();
-}
-
-pub fn created(answer: Created) {
-    match answer {
-        Created::At(slot) => {
-            say::passed();
-            say::number(slot);
-        }
-        Created::Refused(r) => say::refused(r),
-    }
-    say::end();
-}
-
-pub fn changed(answer: Changed) {
-    match answer {
-        Changed::Done => say::passed(),
-        Changed::Refused(r) => say::refused(r),
-    }
-    say::end();
-}
-
-pub fn wiped(answer: Finished) {
-    finished(answer);
-    say::end();
 }

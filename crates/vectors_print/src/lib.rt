@@ -3,5 +3,4 @@
 
 pub mod answers;
 pub mod dump;
-pub mod heads;
 pub mod say;

@@ -1,62 +1,36 @@
-// The parts of a printed line: label, call with its numbers, then the refusal's number (0 for none), its slot (- for none), values.
-use meaning::{Named, Refusal};
-
-fn text(bytes: &[u8]) {
-    io::write_all(1, bytes);
-}
-
-pub fn number(n: u64) {
-    text(b" ");
-    io::print_decimal(1, n);
-}
-
-pub fn start(label: &[u8], call: &[u8]) {
-    text(label);
-    text(b": ");
-    text(call);
-}
-
-pub fn answer() {
-    text(b" ->");
-}
-
-pub fn end() {
-    text(b"\n");
-}
-
-pub fn passed() {
-    text(b" 0 -");
-}
-
-pub fn refused(r: Refusal) {
-    let named = r.named;
-    number(r.number);
-    match named {
-        Named::Nowhere => text(b" -"),
-        Named::Slot(s) => number(s),
-    }
-}
-
-// A slot among lent numbers: no slot is 2^64 - 1.
-pub fn slot_number(slot: u64) {
-    if slot == 0xFFFF_FFFF_FFFF_FFFF {
-        text(b" -");
-    } else {
-        number(slot);
-    }
-}
-
-fn byte(b: u8) {
-    io::print_hex(1, b as u64, 2);
-}
+// The parts of a printed line that follow its call: the refusal's number (0 for none), its slot (- for none), values.
+use meaning::Refusal;
+use std::fmt;
+use std::io::{self, Write};
 
 // Bytes in hex, between brackets.
-pub fn hex(bytes: &[u8]) {
-    text(b" [");
-    let mut i = 0;
-    while i < bytes.len() {
-        byte(bytes[i]);
-        i += 1;
+#[derive(Clone, Copy, Drop)]
+pub struct Hex<'a>(pub &'a [u8]);
+
+impl fmt::Display for Hex<'_> {
+    fn fmt<W: fmt::Write>(&self, f: &mut fmt::Formatter<W>) -> fmt::Result {
+        write!(f, "[")?;
+        for byte in self.0 {
+            write!(f, "{byte:02x}")?;
+        }
+        write!(f, "]")
     }
-    text(b"]");
+}
+
+// A call that is not refused.
+pub fn passed<W: Write>(out: &mut W) -> io::Result<()> {
+    write!(out, " 0 -")
+}
+
+// A refusal's number and the slot that it names.
+pub fn refusal<W: Write>(out: &mut W, number: u64, slot: Option<u64>) -> io::Result<()> {
+    match slot {
+        None => write!(out, " {number} -"),
+        Some(slot) => write!(out, " {number} {slot}"),
+    }
+}
+
+// A call that is refused.
+pub fn refused<W: Write>(out: &mut W, r: Refusal) -> io::Result<()> {
+    refusal(out, r.reason.number(), r.named)
 }

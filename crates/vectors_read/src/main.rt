@@ -3,17 +3,9 @@
 // of heads: the plain store of host/reference wrote those, which shares no code with this one.
 #![tactic(auto)]
 
-mod script;
+use std::io;
 
-fn main() {
-    let mut buffer = io::large_buffer();
-    let n = io::read_full(0, &mut buffer);
-    play(&buffer[..n]);
-}
-
-// Programs keep to 1,024 slots (W-203): room for those and for one more, the pool of 65,600 bytes.
-fn play(text: &[u8]) {
-    let mut pool = [0u8; 65600];
-    let mut records = [0u8; 12300];
-    script::play(text, &mut pool, &mut records);
+// The script is the input.
+fn main(rt: HostRuntime) -> io::Result<()> {
+    vectors_play::player::play(&rt)
 }

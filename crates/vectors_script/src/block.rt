@@ -1,93 +1,67 @@
 // For the programs of test vectors: one block, record or byte laid out, as document 01 has it: nothing here uses the code that is
 // tried. What lies outside a slice is left out.
-ghost use Rattle.std.specs.Prelude.{◌≤◌};
+
+// Bytes from a place on.
+fn put(bytes: &mut [u8], at: usize, values: &[u8]) {
+    for (byte, value) in bytes.iter_mut().skip(at).zip(values) {
+        *byte = *value;
+    }
+}
+
+// A number modulo 256.
+fn low(value: u64) -> u8 {
+    (value % 256) as u8
+}
 
 // One byte, modulo 256.
-pub fn poke(bytes: &mut [u8], at: usize, value: u64) {
-    if at < bytes.len() {
-        bytes[at] = (value % 256) as u8;
-    }
+pub fn poke(bytes: &mut [u8], at: u64, value: u64) {
+    put(bytes, at as usize, &[low(value)]);
 }
 
-// A number in `width` bytes, lowest first.
-fn put(bytes: &mut [u8], at: usize, width: usize, value: u64)
-    requires { (at ≤ 100000) × (width ≤ 8) }
-{
-    let mut rest = value;
-    let mut i: usize = 0;
-    while i < width {
-        poke(bytes, at + i, rest);
-        rest = rest / 256;
-        i += 1;
-    }
+// A slot number's four bytes.
+fn put_slot(block: &mut [u8], at: usize, slot: u64) {
+    put(block, at, &slot.to_le_bytes()[..4]);
 }
 
-// A slot, or the first that no store has.
-fn within(slot: u64) -> usize
-    ensures { result ≤ 1025 }
-{
-    if slot < 1025 { slot as usize } else { 1025 }
-}
-
-// The entry i of a payload, if the block has it: a data byte or a child, `first` and up.
-fn put_entry(pool: &mut [u8], at: usize, width: usize, i: usize, first: u64, count: u64)
-    requires { (at ≤ 100000) × (width ≤ 8) }
-{
-    let n = i as u64;
-    if n < count {
-        put(pool, at, width, std::num::wrapping_add_u64(first, n));
-    }
-}
-
-// A block's header: `own` is the slot number that the block names, `at` the place where it lies.
-fn put_header(pool: &mut [u8], at: usize, own: u64, height: u64, count: u64, version: u64)
-    requires { at ≤ 99000 }
-{
-    put(
-        pool,
-        at,
-        4,
-        0x314C + height % 256 * 65536 + count % 256 * 16777216,
-    );
-    put(pool, at + 4, 4, own);
-    put(pool, at + 8, 8, version);
+// A block's header: `own` is the slot number that the block names.
+fn put_header(block: &mut [u8], own: u64, height: u64, count: u64, version: u64) {
+    put(block, 0, &[b'L', b'1', low(height), low(count)]);
+    put_slot(block, 4, own);
+    put(block, 8, &version.to_le_bytes());
 }
 
 // A leaf, whose data byte i is 64 times its own slot, plus i, modulo 256.
 pub fn leaf(pool: &mut [u8], place: u64, own: u64, count: u64, version: u64) {
-    let at = 64 * within(place);
-    put_header(pool, at, own, 0, count, version);
-    let first = own % 4 * 64;
-    let mut i: usize = 0;
-    while i < 48 {
-        put_entry(pool, at + 16 + i, 1, i, first, count);
-        i += 1;
+    if let Some(block) = pool.chunks_mut(64).nth(place as usize) {
+        put_header(block, own, 0, count, version);
+        let first = own.wrapping_mul(64);
+        for (i, byte) in (0..count.min(48)).zip(block.iter_mut().skip(16)) {
+            *byte = low(first.wrapping_add(i));
+        }
     }
 }
 
 // An inner block, whose children are the slots from `first` on.
 pub fn inner(pool: &mut [u8], slot: u64, height: u64, count: u64, version: u64, first: u64) {
-    let at = 64 * within(slot);
-    put_header(pool, at, slot, height, count, version);
-    let mut i: usize = 0;
-    while i < 12 {
-        put_entry(pool, at + 16 + 4 * i, 4, i, first, count);
-        i += 1;
+    if let Some(block) = pool.chunks_mut(64).nth(slot as usize) {
+        put_header(block, slot, height, count, version);
+        for (i, child) in (0..count.min(12)).zip(block.chunks_mut(4).skip(4)) {
+            put_slot(child, 0, first.wrapping_add(i));
+        }
     }
 }
 
 // A record: state 0 free, 1 part, 2 root.
 pub fn record(records: &mut [u8], slot: u64, state: u64, version: u64) {
-    let at = 12 * within(slot);
-    put(records, at, 4, 0x3152 + state % 256 * 65536);
-    put(records, at + 4, 8, version);
+    if let Some(record) = records.chunks_mut(12).nth(slot as usize) {
+        put(record, 0, &[b'R', b'1', low(state), 0]);
+        put(record, 4, &version.to_le_bytes());
+    }
 }
 
 // The bytes first, first + 1 and so on, modulo 256.
-pub fn fill(data: &mut [u8], first: u64) {
-    let mut i = 0;
-    while i < data.len() {
-        data[i] = (std::num::wrapping_add_u64(first, i as u64) % 256) as u8;
-        i += 1;
+pub fn fill(bytes: &mut [u8], first: u64) {
+    for (i, byte) in (0u64..).zip(bytes.iter_mut()) {
+        *byte = low(first.wrapping_add(i));
     }
 }

@@ -2,7 +2,6 @@
 #![tactic(auto)]
 
 pub mod block;
-pub mod lay;
-pub mod next;
-pub mod steps;
-pub mod text;
+pub mod command;
+pub mod rounds;
+pub mod store;

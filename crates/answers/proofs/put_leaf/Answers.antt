@@ -2,8 +2,8 @@
 use Rattle.answers.proofs.NumbersOfAnswers.{leaf_at_lem, leaf_refused}
 use Rattle.answers.proofs.put_leaf.Goals as goal
 
-pub returns-in-At : goal.returns-in-At
-returns-in-At c = search leaf_at_lem
+pub returns-in-Ok : goal.returns-in-Ok
+returns-in-Ok c = search leaf_at_lem
 
-pub returns-in-Refused : goal.returns-in-Refused
-returns-in-Refused c = search leaf_refused
+pub returns-in-Err : goal.returns-in-Err
+returns-in-Err c = search leaf_refused

@@ -1,9 +1,7 @@
--- By cases.
-use Rattle.answers.proofs.NumbersOfAnswers.{number_nowhere, number_slot}
+-- The slot, or the number that stands for none.
+use mathlib.Core.Path.{◌∙◌}
+use Rattle.answers.proofs.NumbersOfAnswers.{named_number}
 use Rattle.answers.proofs.slot_number.Goals as goal
 
-pub returns-in-Nowhere : goal.returns-in-Nowhere
-returns-in-Nowhere c = search number_nowhere
-
-pub returns-in-Slot : goal.returns-in-Slot
-returns-in-Slot c = search number_slot
+pub returns : goal.returns
+returns c = c.unwrap_or.ensures ∙ named_number c.args.named

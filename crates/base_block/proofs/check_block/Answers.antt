@@ -1,9 +1,9 @@
--- Check 2's number decides, then check 3.
+-- What check 2 finds decides, then check 3.
 use Rattle.laws.proofs.Checks.{check_flaw, check_passed, check_shape}
 use Rattle.base_block.proofs.check_block.Goals as goal
 
-pub returns-then-n-ne0 : goal.returns-then-n-ne0
-returns-then-n-ne0 c = search check_flaw
+pub returns-in-Some : goal.returns-in-Some
+returns-in-Some c = search check_flaw
 
 pub returns-then-formed_of : goal.returns-then-formed_of
 returns-then-formed_of c = search check_passed

@@ -1,25 +1,30 @@
--- Usable slots, one after the other: an equation for each way out of the loops.
+-- Usable slots, one after the other: the first found, all counted, and an equation for each way round and out of the loop that lists them.
 use mathlib.Core.Path.{◌≡◌, refl, ap, ◌∙◌, sym}
-use mathlib.Core.Bool.{Bool, true, false, not}
+use mathlib.Core.Bool.{Bool, true, false}
 use mathlib.Core.List.{List, [], ◌∷◌, ◌++◌, append_assoc, append-nil}
 use Prim.Native.Nat.{ℕ, zero, suc, ◌+◌, ◌-◌, ◌^◌, ◌≤◌, ◌<◌}
 use native.Mathlib.Numerals.{add-one}
 use native.Mathlib.Omega.{arith}
-use borrow.Author.Tests.{ne_eqb, not-true, not-false}
-use lib.Dec.{ltb}
+use borrow.Author.Tests.{ne_eqb}
+use lib.Dec.{eqb, ltb}
 use lib.ListN.{length, get_or, take, set, get_or-eq_default}
-use lib.Seq.{take-suc-set, length-take-le}
+use lib.Seq.{length-take-le}
+use Rattle.std.specs.List.{range_with_len, find, slice_get}
+use Rattle.std.specs.Int.{from_bool}
+use Rattle.std.proofs.lemmas.List.{take_more_set}
+use Rattle.std.specs.Option.{option_map}
+use Rattle.std.specs.Prelude.{Option, None, Some}
 use Rattle.meaning.specs.declared.Edition.{Edition}
-use Rattle.meaning.specs.Lists.{pick, both, filter, bytes}
+use Rattle.meaning.specs.Lists.{pick, both, filter, range, bytes}
 use Rattle.meaning.specs.Bytes.{record_at, state_of, recorded_of, last_version, usable_slot}
 use Rattle.meaning.specs.Calls.{usable}
 use Rattle.laws.proofs.Ranges.{left_all, left_step, left_none}
 use Rattle.laws.proofs.Codec.{state_is, version_is}
-use Rattle.base_slot.specs.declared.usable.Free.TheVariants.{At, Nowhere}
-use Rattle.base_slot.specs.usable.{usable_from, lowest_of, Added}
+use Rattle.laws.proofs.Inversions.{by_test}
+use Rattle.base_slot.specs.usable.{usable_from}
 
 module _ (R : List ℕ) (s : ℕ) (rb : List ℕ) (er : rb ≡ record_at R s) (st : ℕ) (es : st ≡ state_of rb) where
-  pub usable_live : (st ≡ 0 → ⊥) → false ≡ usable_slot R s
+  pub usable_live : (st ≡ 0 → ⊥) → eqb st 0 ≡ usable_slot R s
   unfolding usable_slot both
   usable_live n = simp (← state_is R s rb er st es, ne_eqb st 0 n)
 
@@ -36,26 +41,31 @@ from_none : (R : List ℕ) (i n : ℕ) → n ≤ i → usable_from R i (n - i) �
 unfolding usable_from filter
 from_none R i n h = rw (left_none i n h)
 
-from_zero : (R : List ℕ) (n : ℕ) → usable_from R 0 (n - 0) ≡ usable_from R 0 n
+-- the number of a truth value
+pub one_taken : (t : Bool) (r : ℕ) → r ≡ from_bool t → (r ≡ pick t 1 0) × (r ≤ 1)
+unfolding pick
+one_taken true r e = (e, omega (arith, e))
+one_taken false r e = (e, omega (arith, e))
+
+-- the library's numbers, tests and first element are those of the definitions
+pub numbers_same : (from n : ℕ) → range_with_len from n ≡ range from n
+unfolding range
+numbers_same from zero = refl
+numbers_same from (suc n) = ap (λ (l : List ℕ). from ∷ l) (rw add-one (numbers_same (suc from) n))
+
+first_kept : (p : ℕ → Bool) (l : List ℕ) → find p l ≡ slice_get (filter p l) 0
+unfolding filter pick
+first_kept p [] = refl
+first_kept p (x ∷ l) = by_test (p x) (λ t. rw t refl) (λ t. rw t (first_kept p l))
+
+same_option : (o : Option ℕ) → option_map (λ (x : ℕ). x) o ≡ o
+same_option None = refl
+same_option (Some x) = refl
+
+-- the lowest found
+pub lowest_found : (R : List ℕ) (n : ℕ) (o : Option ℕ) → option_map (λ (x : ℕ). x) o ≡ find (usable_slot R) (range_with_len 0 n) → o ≡ slice_get (usable_from R 0 n) 0
 unfolding usable_from
-from_zero R n = rw (left_all n)
-
-pub lowest_start : (R : List ℕ) (n : ℕ) → usable_from R 0 n ≡ usable_from R 0 (n - 0)
-lowest_start R n = sym (from_zero R n)
-
-module _ (R : List ℕ) (n i : ℕ) (inv : usable_from R 0 n ≡ usable_from R i (n - i)) where
-  pub lowest_none : n ≤ i → Nowhere ≡ lowest_of (usable_from R 0 n)
-  unfolding lowest_of
-  lowest_none l = rw (inv, from_none R i n l)
-
-  module _ (l : i < n) (t : Bool) (et : t ≡ usable_slot R i) where
-    pub lowest_here : t ≡ true → At i ≡ lowest_of (usable_from R 0 n)
-    unfolding lowest_of pick
-    lowest_here p = rw (inv, from_step R i n l, ← et, p)
-
-    pub lowest_on : t ≡ false → usable_from R 0 n ≡ usable_from R (i + 1) (n - (i + 1))
-    unfolding pick
-    lowest_on p = rw (inv, from_step R i n l, ← et, p)
+lowest_found R n o e = sym (same_option o) ∙ e ∙ ap (find (usable_slot R)) (numbers_same 0 n) ∙ first_kept (usable_slot R) (range 0 n)
 
 -- counted: those found and those that are left
 picked : (t u : Bool) (x : ℕ) (l : List ℕ) → t ≡ u → length (pick u (x ∷ l) l) ≡ pick t 1 0 + length l
@@ -63,16 +73,9 @@ unfolding pick
 picked true u x l e = rw (← e) (omega arith)
 picked false u x l e = rw (← e) (omega arith)
 
-pub one_taken : (t : Bool) → t ≡ true → ◌≡◌ {A = ℕ} 1 (pick t 1 0)
-unfolding pick
-one_taken t e = rw e
-
-pub one_left : (t : Bool) → t ≡ false → ◌≡◌ {A = ℕ} 0 (pick t 1 0)
-unfolding pick
-one_left t e = rw e
-
 pub count_start : (R : List ℕ) (n : ℕ) → length (usable_from R 0 n) ≡ 0 + length (usable_from R 0 (n - 0))
-count_start R n = ap length (lowest_start R n) ∙ omega arith
+unfolding usable_from
+count_start R n = rw (left_all n) (omega arith)
 
 module _ (R : List ℕ) (n i k : ℕ) (inv : length (usable_from R 0 n) ≡ k + length (usable_from R i (n - i))) where
   pub count_end : n ≤ i → k ≡ length (usable_from R 0 n)
@@ -87,24 +90,10 @@ pub usable_all : (e : Edition) (n : ℕ) (P R : List ℕ) → usable_from R 0 n 
 unfolding usable_from usable
 usable_all e n P R = refl
 
--- listed: a slot is put, or not
-module _ (t : Bool) (slot at : ℕ) (row : List ℕ) where
-  pub added_none : not t ≡ true → Added t slot at row at row
-  unfolding pick
-  added_none q = record { front = rw (not-true t q) (sym (append-nil (take at row))); most = omega arith }
-
-  pub added_one : not t ≡ false → at < length row → Added t slot at row (at + 1) (set row at slot)
-  unfolding pick
-  added_one q l = record { front = rw (not-false t q, add-one) (take-suc-set row at slot l); most = omega arith }
-
--- those in the row and those that are left make up all
-picked_list : (t u : Bool) (x : ℕ) (l : List ℕ) → t ≡ u → pick u (x ∷ l) l ≡ pick t (x ∷ []) [] ++ l
-unfolding pick
-picked_list true u x l e = rw (← e)
-picked_list false u x l e = rw (← e)
-
+-- listed: those in the row and those that are left make up all
 pub list_start : (R row : List ℕ) (n : ℕ) → usable_from R 0 n ≡ take 0 row ++ usable_from R 0 (n - 0)
-list_start R row n = lowest_start R n
+unfolding usable_from
+list_start R row n = rw (left_all n) refl
 
 module _ (R row : List ℕ) (n i k : ℕ) (inv : usable_from R 0 n ≡ take k row ++ usable_from R i (n - i)) where
   pub list_end : n ≤ i → take k row ≡ usable_from R 0 n
@@ -113,12 +102,14 @@ module _ (R row : List ℕ) (n i k : ℕ) (inv : usable_from R 0 n ≡ take k ro
   pub list_count : n ≤ i → k ≤ i → i ≤ n → length row ≡ n → k ≡ length (usable_from R 0 n)
   list_count l few top long = sym (length-take-le k row (omega arith)) ∙ ap length (list_end l)
 
-  pub list_more : i < n → (t : Bool) → t ≡ usable_slot R i → (k' : ℕ) (row' : List ℕ) → Added t i k row k' row'
-      → usable_from R 0 n ≡ take k' row' ++ usable_from R (i + 1) (n - (i + 1))
-  list_more l t et k' row' a =
-      inv ∙ ap (λ (m : List ℕ). take k row ++ m) (from_step R i n l ∙ picked_list t (usable_slot R i) i (usable_from R (i + 1) (n - (i + 1))) et)
-      ∙ sym (append_assoc (take k row) (pick t (i ∷ []) []) (usable_from R (i + 1) (n - (i + 1))))
-      ∙ ap (λ (m : List ℕ). m ++ usable_from R (i + 1) (n - (i + 1))) (sym a.front)
+  module _ (l : i < n) (t : Bool) (et : t ≡ usable_slot R i) where
+    pub list_put : t ≡ true → k < length row → usable_from R 0 n ≡ take (k + 1) (set row k i) ++ usable_from R (i + 1) (n - (i + 1))
+    unfolding pick
+    list_put p h = rw (take_more_set row k i h, append_assoc) (inv ∙ ap (λ (m : List ℕ). take k row ++ m) (rw (from_step R i n l, ← et, p) refl))
+
+    pub list_passed : t ≡ false → usable_from R 0 n ≡ take k row ++ usable_from R (i + 1) (n - (i + 1))
+    unfolding pick
+    list_passed p = inv ∙ ap (λ (m : List ℕ). take k row ++ m) (rw (from_step R i n l, ← et, p) refl)
 
 -- the k-th of a list, and of none the number past every pool
 inside_same : (l : List ℕ) (k a b : ℕ) → k < length l → get_or l k a ≡ get_or l k b

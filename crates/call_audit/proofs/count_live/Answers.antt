@@ -1,12 +1,9 @@
 use borrow.Author.Rules.{rules}
-use Rattle.call_audit.proofs.LiveCounted.{live_start, live_more, live_end}
+use Rattle.call_audit.proofs.LiveCounted.{live_more, live_end}
 use Rattle.call_audit.proofs.count_live.Goals as goal
 
-pub loop-i-init : goal.loop-i-init
-loop-i-init c = (search live_start, search rules, search rules)
-
 pub loop-i-preserved : goal.loop-i-preserved
-loop-i-preserved c = (search live_more, search rules, search rules)
+loop-i-preserved c = (search live_more, search rules)
 
 pub returns : goal.returns
 returns c = search live_end

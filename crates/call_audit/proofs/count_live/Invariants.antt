@@ -5,7 +5,4 @@ use Rattle.call_audit.specs.Counting.{live_from}
 use Rattle.call_audit.proofs.count_live.Given as goal
 
 abbrev pub invariant-loop-i : goal.invariant-loop-i
-invariant-loop-i l = (l.live + live_from l.records l.i (l.n - l.i) ≡ live_from l.records 0 l.n) × (l.live ≤ l.i) × (l.i ≤ l.n)
-
-abbrev pub decreases-loop-i : goal.decreases-loop-i
-decreases-loop-i l = l.n - l.i
+invariant-loop-i l = (l.live + live_from l.records l.i (l.n - l.i) ≡ live_from l.records 0 l.n) × (l.live ≤ l.i)

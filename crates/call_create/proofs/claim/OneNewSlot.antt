@@ -1,4 +1,5 @@
 -- Create: the changes of a new blob are one change, at the lowest usable slot.
+use Rattle.std.specs.Prelude.{Err, Ok}
 use mathlib.Core.Path.{◌≡◌, refl, ap, ◌∙◌, sym}
 use mathlib.Core.Bool.{Bool, true, false}
 use mathlib.Core.List.{List, [], ◌∷◌, ◌++◌}
@@ -9,6 +10,8 @@ use lib.Dec.{eqb, ltb}
 use lib.ListN.{length, get_or}
 use mir.Syntax.{w64}
 use mir.Val.{Fits}
+use Rattle.std.specs.Prelude.{Option, None, Some, slice_get}
+use Rattle.meaning.specs.declared.Reason.TheVariants.{NoRoom}
 use Rattle.meaning.specs.Lists.{pick, range, filter, joined}
 use Rattle.meaning.specs.Edition.{Proper}
 use Rattle.meaning.specs.Bytes.{encoded, block_bytes, item_bytes, record_at, record_of, recorded_of, recorded, state, usable_slot, last_version}
@@ -17,17 +20,14 @@ use Rattle.meaning.specs.Refusals.{nowhere}
 use Rattle.meaning.specs.Change.{Change, put, puts, renewed, changed, changed_by}
 use Rattle.meaning.specs.Resize.{lowest}
 use Rattle.meaning.specs.Calls.{done, refuse_if, usable, refuse_full, become, create_on, after}
-use Rattle.meaning.specs.Answers.{create_answer, Ends}
+use Rattle.meaning.specs.Answers.{answer_of, Ends}
 use Rattle.meaning.specs.declared.Edition.{Edition}
 use Rattle.meaning.specs.declared.Refusal.{Refusal}
-use Rattle.meaning.specs.declared.Created.TheVariants as CreatedCase
 use Rattle.laws.proofs.Inversions.{by_test, both_true}
 use Rattle.laws.proofs.Codec.{version_is}
 use Rattle.check_gate.specs.Gate.{Whole}
 use Rattle.check_blob.proofs.visit.VisitAsDefined.{slot_fits}
-use Rattle.base_slot.specs.declared.usable.Free.{Free}
-use Rattle.base_slot.specs.declared.usable.Free.TheVariants.{At, Nowhere}
-use Rattle.base_slot.specs.usable.{usable_from, lowest_of}
+use Rattle.base_slot.specs.usable.{usable_from}
 use Rattle.base_slot.proofs.usable.UsableInOrder.{usable_all}
 use Rattle.plan_slot.specs.change.Places.{Places}
 use Rattle.plan_slot.specs.change.Turns.{over}
@@ -75,24 +75,22 @@ first_found f i (suc k) s rest e =
     (λ t. let z : i ≡ s = first_picked (f i) i (filter f (range (suc i) k)) s rest t e in (rw (← z) t, omega arith))
     (λ t. let w = first_found f (suc i) k s rest (rest_picked (f i) i (filter f (range (suc i) k)) (s ∷ rest) t e) in (w.0, omega (arith, w.1)))
 
-at_first : (l : List ℕ) (s : ℕ) → At s ≡ lowest_of l → (rest : List ℕ) × (l ≡ s ∷ rest)
-unfolding lowest_of
+at_first : (l : List ℕ) (s : ℕ) → Some s ≡ slice_get l 0 → (rest : List ℕ) × (l ≡ s ∷ rest)
 at_first [] s e = absurd (let z : ◌≡◌ {A = ℕ} 0 1 = cc in omega arith)
 at_first (x ∷ l) s e = (l, cc)
 
-at_none : (l : List ℕ) → Nowhere ≡ lowest_of l → l ≡ []
-unfolding lowest_of
+at_none : (l : List ℕ) → None ≡ slice_get l 0 → l ≡ []
 at_none [] e = refl
 at_none (x ∷ l) e = absurd (let z : ◌≡◌ {A = ℕ} 0 1 = cc in omega arith)
 
-module _ (e : Edition) (p : Proper e) (n : ℕ) (P R : List ℕ) (w : Whole e n P R) (x : Free) (ex : x ≡ lowest_of (usable_from R 0 n)) where
-  pub create_full : x ≡ Nowhere → (q : Refusal) → q ≡ nowhere 11 → Ends e create_answer (create_on e n P R []) P R (CreatedCase.Refused q) P R
-  unfolding create_on refuse_full refuse_if create_answer after
+module _ (e : Edition) (p : Proper e) (n : ℕ) (P R : List ℕ) (w : Whole e n P R) (x : Option ℕ) (ex : x ≡ slice_get (usable_from R 0 n) 0) where
+  pub create_full : x ≡ None → (q : Refusal) → q ≡ nowhere NoRoom → Ends e answer_of (create_on e n P R []) P R (Err q) P R
+  unfolding create_on refuse_full refuse_if answer_of after
   create_full z q eq =
       let u : usable e n P R ≡ [] = sym (usable_all e n P R) ∙ at_none (usable_from R 0 n) (sym z ∙ ex) in
       record { answer = rw (eq, u); pool = rw u; records = rw u }
 
-  module _ (s : ℕ) (es : x ≡ At s) where
+  module _ (s : ℕ) (es : x ≡ Some s) where
     slot : (rest : List ℕ) × (usable_from R 0 n ≡ s ∷ rest)
     slot = at_first (usable_from R 0 n) s (sym es ∙ ex)
 
@@ -135,8 +133,8 @@ module _ (e : Edition) (p : Proper e) (n : ℕ) (P R : List ℕ) (w : Whole e n 
           rw (f, l, change)
 
       pub create_done : (P' R' none : List ℕ) → none ≡ [] → P' ≡ put e.size s (block_bytes e 0 0 s (v + 1) none) P → R' ≡ put 12 s (record_of 2 (v + 1)) R
-          → Ends e create_answer (create_on e n P R []) P R (CreatedCase.At s) P' R'
-      unfolding create_answer after changed_by puts renewed encoded item_bytes
+          → Ends e answer_of (create_on e n P R []) P R (Ok s) P' R'
+      unfolding answer_of after changed_by puts renewed encoded item_bytes
       create_done P' R' none en ep er' =
           record {
             answer = rw outcome;

@@ -7,8 +7,8 @@ use Rattle.call_create.proofs.create_in.Goals as goal
 pub check-requires : goal.check-requires
 check-requires c = record { proper = search rules; sized = search whole_sized; n_le_most = search rules }
 
-pub returns-in-Fault : goal.returns-in-Fault
-returns-in-Fault c = search create_fault
+pub returns-in-Err : goal.returns-in-Err
+returns-in-Err c = search create_fault
 
-pub returns-in-Fine : goal.returns-in-Fine
-returns-in-Fine c = search create_behind
+pub returns-in-Ok : goal.returns-in-Ok
+returns-in-Ok c = search create_behind

@@ -4,18 +4,19 @@ use Rattle.check_blob.proofs.Lending.{flags_reach, flags_lent, row_reaches}
 use Rattle.call_length.proofs.LengthAnswered.{length_barred, length_behind}
 use borrow.Author.Rules.{rules}
 use Rattle.call_length.proofs.length_call.Goals as goal
+use Rattle.laws.proofs.HandedOn.{handed}
 
 pub slice_bounds-length_in-end : goal.slice_bounds-length_in-end
-slice_bounds-length_in-end c = search flags_reach
+slice_bounds-length_in-end c = search (flags_reach, c.in_ok-n.was)
 
-pub slice_bounds-length_in-end-in-Slots : goal.slice_bounds-length_in-end-in-Slots
-slice_bounds-length_in-end-in-Slots c = search row_reaches
+pub slice_bounds-length_in-end-2 : goal.slice_bounds-length_in-end-2
+slice_bounds-length_in-end-2 c = search (row_reaches, c.in_ok-n.was)
 
 pub length_in-requires : goal.length_in-requires
-length_in-requires c = record { proper = search rules; whole = search gate_whole; seen_value = search flags_lent }
+length_in-requires c = record { proper = search rules; whole = search (gate_whole, c.in_ok-n.was); seen_value = search (flags_lent, c.in_ok-n.was) }
 
-pub returns-in-Refused : goal.returns-in-Refused
-returns-in-Refused c = search length_barred
+pub returns-in_err-n : goal.returns-in_err-n
+returns-in_err-n c = rw (handed c.from_residual.ensures.1) (search (length_barred, c.in_err-n.was))
 
-pub returns-in-Slots : goal.returns-in-Slots
-returns-in-Slots c = search length_behind
+pub returns : goal.returns
+returns c = search (length_behind, c.in_ok-n.was)

@@ -1,4 +1,5 @@
 -- What a resize of a blob that is found answers: refusals 12 and 11, and what is done.
+use Rattle.std.specs.Prelude.{Err, Ok}
 use mathlib.Core.Path.{◌≡◌, refl, ap, ◌∙◌, sym}
 use mathlib.Core.Bool.{true, false}
 use mathlib.Core.List.{List}
@@ -8,16 +9,16 @@ use native.Mathlib.Omega.{arith}
 use borrow.Author.Tests.{ltb-false}
 use lib.Dec.{ltb}
 use lib.ListN.{length, take, drop}
+use Rattle.meaning.specs.declared.Reason.TheVariants.{NoRoom, WornOut}
 use Rattle.meaning.specs.declared.Edition.{Edition}
 use Rattle.meaning.specs.declared.Refusal.{Refusal}
-use Rattle.meaning.specs.declared.Changed.TheVariants as ChangedCase
 use Rattle.meaning.specs.Shape.{leaves_for, total}
 use Rattle.meaning.specs.Tree.{Blob}
-use Rattle.meaning.specs.Refusals.{nowhere}
+use Rattle.meaning.specs.Refusals.{nowhere, Checked}
 use Rattle.meaning.specs.Change.{Change, puts, changed_by}
 use Rattle.meaning.specs.Calls.{refused, done, refuse_if, usable, refuse_full, new_blocks, resize_on, resize_in, after}
-use Rattle.meaning.specs.Answers.{change_answer, Ends}
-use Rattle.laws.proofs.Inversions.{by_test}
+use Rattle.meaning.specs.Answers.{answer_of, Ends}
+use Rattle.laws.proofs.Inversions.{by_test, passed_faultless}
 use Rattle.check_gate.specs.Gate.{Whole}
 use Rattle.check_survey.specs.sites.Spelt.{blob_at}
 use Rattle.check_survey.proofs.sites.Knowing.{known_changing}
@@ -26,7 +27,7 @@ use Rattle.base_slot.proofs.usable.UsableInOrder.{usable_all}
 use Rattle.check_survey.specs.worn.{worn_among}
 use Rattle.check_survey.proofs.worn.WornByHeights.{worn_refused, worn_passed}
 use Rattle.check_survey.specs.refusal.{resize_barred}
-use Rattle.check_survey.proofs.refusal.NumberByTests.{lacking, resize_worn, resize_full, resize_none, resize_fresh, resize_room}
+use Rattle.check_survey.proofs.refusal.BarredByTests.{lacking, resize_worn, resize_full, resize_none, resize_fresh, resize_room}
 use Rattle.call_resize.specs.fit.Found.{Found, Roomy, resized_to}
 
 -- the blob of root r, found
@@ -43,10 +44,10 @@ module _ (e : Edition) (n : ℕ) (P R : List ℕ) (r bytes leaves : ℕ) (hs fs 
   on_blob = known_changing e n P R r bytes leaves g.row hs fs g.known (resize_on e n P R len)
 
   -- refusal 12
-  worn_ends : worn_among R hs n ≡ true → Ends e change_answer (resize_in e n P R r len) P R (ChangedCase.Refused (nowhere 12)) P R
-  unfolding resize_on change_answer after
+  worn_ends : worn_among R hs n ≡ true → Ends e answer_of (resize_in e n P R r len) P R (Err (nowhere WornOut)) P R
+  unfolding resize_on answer_of after
   worn_ends is =
-      let u : resize_in e n P R r len ≡ refused (nowhere 12) = on_blob ∙ worn_refused e n P R r bytes leaves g.row hs fs g.known is _ in
+      let u : resize_in e n P R r len ≡ refused (nowhere WornOut) = on_blob ∙ worn_refused e n P R r bytes leaves g.row hs fs g.known is _ in
       record { answer = rw u; pool = rw u; records = rw u }
 
   module _ (free : ℕ) (ef : free ≡ length (usable_from R 0 n)) where
@@ -60,42 +61,41 @@ module _ (e : Edition) (n : ℕ) (P R : List ℕ) (r bytes leaves : ℕ) (hs fs 
 
     -- refusal 11
     full_ends : worn_among R hs n ≡ false → lacking e leaves len free ≡ true
-        → Ends e change_answer (resize_in e n P R r len) P R (ChangedCase.Refused (nowhere 11)) P R
-    unfolding refuse_full refuse_if change_answer after
+        → Ends e answer_of (resize_in e n P R r len) P R (Err (nowhere NoRoom)) P R
+    unfolding refuse_full refuse_if answer_of after
     full_ends sound is =
-        let u : resize_in e n P R r len ≡ refused (nowhere 11) = unworn sound ∙ rw (← room, is) in
+        let u : resize_in e n P R r len ≡ refused (nowhere NoRoom) = unworn sound ∙ rw (← room, is) in
         record { answer = rw u; pool = rw u; records = rw u }
 
-    module _ (number : ℕ) (en : number ≡ resize_barred e R hs n leaves len free) where
-      -- refused with that number
-      pub resize_barred_lem : (number ≡ 0 → ⊥) → (q : Refusal) → q ≡ nowhere number
-          → Ends e change_answer (resize_in e n P R r len) P R (ChangedCase.Refused q) P R
-      resize_barred_lem some q eq =
+    module _ (x : Checked) (ex : x ≡ resize_barred e R hs n leaves len free) where
+      -- refused so
+      pub resize_barred_lem : (q : Refusal) → x ≡ Err q → Ends e answer_of (resize_in e n P R r len) P R (Err q) P R
+      resize_barred_lem q eq =
           by_test (worn_among R hs n)
-          (λ t. rw (eq, en, ← resize_worn e R hs n leaves len free _ refl t) (worn_ends t))
+          (λ t. rw (sym eq ∙ ex ∙ sym (resize_worn e R hs n leaves len free _ refl t _ refl)) (worn_ends t))
           (λ t.
           by_test (lacking e leaves len free)
-          (λ l. rw (eq, en, ← resize_full e R hs n leaves len free _ refl t _ refl l) (full_ends t l))
-          (λ l. absurd (some (en ∙ sym (resize_none e R hs n leaves len free _ refl t _ refl l)))))
+          (λ l. rw (sym eq ∙ ex ∙ sym (resize_full e R hs n leaves len free _ refl t _ refl l _ refl)) (full_ends t l))
+          (λ l. passed_faultless (resize_none e R hs n leaves len free _ refl t _ refl l ∙ sym ex ∙ eq)))
 
-      module _ (z : number ≡ 0) where
+      module _ (z : x ≡ Ok tt) where
         -- past both
         pub resize_roomy : Whole e n P R → (row : List ℕ) → take free row ≡ usable_from R 0 n → (want : ℕ) → want ≡ leaves_for e.leaf len
             → Roomy e n P R r bytes leaves hs fs (take (free - 0) (drop 0 row)) len want
         resize_roomy w row el want ew = rw (sub-zero free) (record {
           whole = w;
           found = g;
-          fresh = resize_fresh e R hs n leaves len free number en z;
+          fresh = resize_fresh e R hs n leaves len free x ex z;
           list = el;
           wanted = ew;
-          room = rw ew (omega (arith, ltb-false free (total e.fan (leaves_for e.leaf len) - total e.fan leaves) (resize_room e R hs n leaves len free number en z), ap length el));
+          room = rw ew (omega (arith, ltb-false free (total e.fan (leaves_for e.leaf len) - total e.fan leaves) (resize_room e R hs n leaves len free x ex z), ap length el));
         })
 
         -- done
         pub resize_done : (P' R' : List ℕ) → P' ≡ puts e.size (λ c. c.block) after_resize P → R' ≡ puts 12 (λ c. c.line) after_resize R
-            → Ends e change_answer (resize_in e n P R r len) P R ChangedCase.Done P' R'
-        unfolding refuse_full refuse_if change_answer after changed_by
+            → Ends e answer_of (resize_in e n P R r len) P R (Ok tt) P' R'
+        unfolding refuse_full refuse_if answer_of after changed_by
         resize_done P' R' ep er =
             let u : resize_in e n P R r len ≡ done tt after_resize =
-            unworn (resize_fresh e R hs n leaves len free number en z) ∙ rw (← room, resize_room e R hs n leaves len free number en z) in
+            unworn (resize_fresh e R hs n leaves len free x ex z) ∙ rw (← room, resize_room e R hs n leaves len free x ex z) in
             record { answer = rw u; pool = ep ∙ rw u; records = er ∙ rw u }

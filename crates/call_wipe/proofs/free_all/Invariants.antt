@@ -1,12 +1,9 @@
 -- The loop's invariant: the records passed are free at version 0.
 use mathlib.Core.Path.{◌≡◌}
-use Prim.Native.Nat.{◌-◌, ◌*◌, ◌≤◌}
-use lib.ListN.{length, take}
+use Prim.Native.Nat.{◌*◌}
+use lib.ListN.{take}
 use Rattle.meaning.specs.Calls.{free_records}
 use Rattle.call_wipe.proofs.free_all.Given as goal
 
 abbrev pub invariant-loop-i : goal.invariant-loop-i
-invariant-loop-i l = (take (12 * l.i) l.records ≡ free_records l.i) × (length l.records ≡ 12 * l.n) × (l.i ≤ l.n)
-
-abbrev pub decreases-loop-i : goal.decreases-loop-i
-decreases-loop-i l = l.n - l.i
+invariant-loop-i l = take (12 * l.i) l.records ≡ free_records l.i

@@ -1,4 +1,5 @@
 -- What keeps the walk's sums and slots small: each leaf noted is a slot newly flagged, so there are no more leaves than slots.
+use Rattle.std.specs.Prelude.{Err, Ok}
 use mathlib.Core.Path.{◌≡◌, ap, ◌∙◌, sym}
 use mathlib.Core.Bool.{Bool}
 use mathlib.Core.List.{List}
@@ -7,6 +8,7 @@ use native.Mathlib.Omega.{arith}
 use lib.ListN.{length, set, length-set}
 use mir.Syntax.{w64}
 use mir.Val.{Fits}
+use Rattle.meaning.specs.Refusals.{Checked}
 use Rattle.meaning.specs.Edition.{Proper}
 use Rattle.meaning.specs.Bytes.{block, count_of, data_of}
 use Rattle.meaning.specs.Shape.{most_count}
@@ -15,22 +17,18 @@ use Rattle.meaning.specs.declared.Edition.{Edition}
 use Rattle.meaning.specs.declared.Refusal.{Refusal}
 use Rattle.meaning.specs.declared.Role.{Role}
 use Rattle.meaning.specs.declared.Role.TheVariants.{Root, Child}
-use Rattle.meaning.specs.declared.Checked.{Checked}
-use Rattle.meaning.specs.declared.Checked.TheVariants.{Passed}
 use Rattle.laws.proofs.Numbers.{part_length}
 use Rattle.laws.proofs.Checks.{leaf_fits, inner_fits}
 use Rattle.laws.proofs.Inversions.{Visited, fine_visited, passed_sound, passed_linked}
 use Rattle.check_blob.specs.visit as visited
 use Rattle.check_blob.specs.visit.{Within}
 use Rattle.check_blob.proofs.visit.VisitAsDefined.{linked_within, slot_fits}
-use Rattle.check_blob.specs.declared.notes.Walked.{Walked}
-use Rattle.check_blob.specs.declared.notes.Walked.TheVariants.{Fault, Fine}
 use Rattle.laws.proofs.Marks.{marks, marks_set, marks_kept, marks_some, marks_all}
-use Rattle.check_blob.specs.notes.{Small, Fresh, BlockStart, RowStart}
+use Rattle.check_blob.specs.notes.{Small, Fresh, BlockStart, RowStart, Walked}
 
 -- one leaf more, in a slot newly flagged
 leaf_marked : (n : ℕ) (R seen : List ℕ) (role : Role) (s k : ℕ) → s < length seen → Fresh role k → k ≤ marks seen
-    → link_check n R seen role s ≡ Passed → k + 1 ≤ marks (set seen s 1)
+    → link_check n R seen role s ≡ Ok tt → k + 1 ≤ marks (set seen s 1)
 unfolding Fresh
 leaf_marked n R seen Root s k h f m q = omega (arith, marks_some seen s h)
 leaf_marked n R seen (Child p) s k h f m q = omega (arith, marks_set seen s h (passed_linked n R seen p s q).unseen)
@@ -38,7 +36,7 @@ leaf_marked n R seen (Child p) s k h f m q = omega (arith, marks_set seen s h (p
 -- the block visit, behind its one visit
 module _ (e : Edition) (p : Proper e) (n : ℕ) (P R seen : List ℕ) (h : ℕ) (role : Role) (edge : Bool) (s b k : ℕ)
     (start : BlockStart e n P R seen role s b k) (c : Checked) (seen₁ : List ℕ)
-    (ec : visited.met c (block e P s) seen₁ ≡ one_visit e n P R h role edge seen s) (pc : c ≡ Passed) where
+    (ec : visited.met c (block e P s) seen₁ ≡ one_visit e n P R h role edge seen s) (pc : c ≡ Ok tt) where
   passed : Visited e n P R h role edge seen s (block e P s) seen₁
   unfolding visited.met
   passed = fine_visited e n P R h role edge seen s (sym ec ∙ rw pc)
@@ -85,7 +83,7 @@ module _ (e : Edition) (p : Proper e) (n : ℕ) (P R seen : List ℕ) (h : ℕ) 
         let f : count_of (block e P s) ≤ e.leaf = leaf_fits e p h (count_of (block e P s)) z count_most in
         count_is ∙ sym (part_length 16 (count_of (block e P s)) (block e P s) (omega (arith, block_long, p.fits)))
 
-    pub leaf_small : m ≤ 255 → Small (Fine (b + m) (k + 1)) seen₁
+    pub leaf_small : m ≤ 255 → Small (Ok ((b + m), (k + 1))) seen₁
     unfolding Small
     leaf_small l =
         record {
@@ -109,17 +107,14 @@ module _ (e : Edition) (p : Proper e) (n : ℕ) (P R seen : List ℕ) (h : ℕ) 
         }
 
 -- the row visit
-module _ (e : Edition) (n : ℕ) (P R seen : List ℕ) (p from left b k : ℕ) (start : RowStart e n P R seen p from left b k) where
-  pub parent_in_pool : e.size * p + e.size ≤ length P
-  parent_in_pool = slot_fits e.size n p P start.sized.pool start.inside
-
+module _ (e : Edition) (n : ℕ) (P R seen : List ℕ) (p from m b k : ℕ) (start : RowStart e n P R seen p from (m - from) b k) where
   pub child_start : (role : Role) → role ≡ Child p → (c : ℕ) → BlockStart e n P R seen role c b k
   unfolding Within Fresh
   child_start role er c =
       rw er (record { sized = start.sized; few = start.few; within = tt; counted = start.counted; fresh = tt })
 
-  pub row_next : (left ≡ 0 → ⊥) → (here : Walked) (sy : List ℕ) → length sy ≡ length seen → Small here sy → (b' k' : ℕ) → here ≡ Fine b' k'
-      → RowStart e n P R sy p (from + 1) (left - 1) b' k'
+  pub row_next : from < m → (here : Walked) (sy : List ℕ) → length sy ≡ length seen → Small here sy → (b' k' : ℕ) → here ≡ Ok (b', k')
+      → RowStart e n P R sy p (from + 1) (m - (from + 1)) b' k'
   unfolding Small
   row_next z here sy l m b' k' eh =
       record {
@@ -131,13 +126,10 @@ module _ (e : Edition) (n : ℕ) (P R seen : List ℕ) (p from left b k : ℕ) (
       }
 
 -- an answer's bounds
-pub small_fault : (r : Refusal) (seen : List ℕ) → Small (Fault r) seen
+pub small_fault : (r : Refusal) (seen : List ℕ) → Small (Err r) seen
 unfolding Small
 small_fault r seen = tt
 
-pub small_stop : (here : Walked) (r : Refusal) (seen : List ℕ) → here ≡ Fault r → Small here seen
-small_stop here r seen e = rw e (small_fault r seen)
-
-pub small_none : (e : Edition) (n : ℕ) (P R seen : List ℕ) (p from left b k : ℕ) → RowStart e n P R seen p from left b k → Small (Fine b k) seen
+pub small_none : (e : Edition) (n : ℕ) (P R seen : List ℕ) (p from left b k : ℕ) → RowStart e n P R seen p from left b k → Small (Ok (b, k)) seen
 unfolding Small
 small_none e n P R seen p from left b k s = s.counted

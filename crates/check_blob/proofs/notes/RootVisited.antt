@@ -1,11 +1,13 @@
 -- The visit of a root: checks 2 and 3 and the mark are its one visit, since a root has no check 1, and there is no byte and no leaf before it.
 -- So each way out is one of the block visit.
+use Rattle.std.specs.Prelude.{Err, Ok}
 use mathlib.Core.Path.{◌≡◌}
 use mathlib.Core.Bool.{true}
 use mathlib.Core.List.{List}
 use Prim.Native.Nat.{ℕ, ◌+◌, ◌-◌, ◌*◌, ◌^◌, ◌≤◌, ◌<◌}
 use native.Mathlib.Omega.{arith}
 use lib.ListN.{length, drop, set}
+use Rattle.meaning.specs.Refusals.{Checked}
 use Rattle.meaning.specs.Lists.{fours}
 use Rattle.meaning.specs.Edition.{Proper}
 use Rattle.meaning.specs.Bytes.{block, count_of}
@@ -13,14 +15,10 @@ use Rattle.meaning.specs.Walk.{one_visit}
 use Rattle.meaning.specs.declared.Edition.{Edition}
 use Rattle.meaning.specs.declared.Refusal.{Refusal}
 use Rattle.meaning.specs.declared.Role.TheVariants.{Root}
-use Rattle.meaning.specs.declared.Checked.{Checked}
-use Rattle.meaning.specs.declared.Checked.TheVariants.{Passed, Faulty}
 use Rattle.check_blob.specs.visit as visited
 use Rattle.check_blob.specs.visit.{Within, marked}
 use Rattle.check_blob.proofs.visit.VisitAsDefined.{slot_fits, root_visited}
-use Rattle.check_blob.specs.declared.notes.Walked.{Walked}
-use Rattle.check_blob.specs.declared.notes.Walked.TheVariants.{Fault, Fine}
-use Rattle.check_blob.specs.notes.{met, note, notes, BlockStart, RowStart}
+use Rattle.check_blob.specs.notes.{met, note, notes, BlockStart, RowStart, Walked}
 use Rattle.check_blob.proofs.notes.Bounds.{count_data, row_start}
 use Rattle.check_blob.proofs.notes.WalkAsDefined.{note_fault, note_leaf, note_inner}
 
@@ -47,12 +45,12 @@ module _ (e : Edition) (p : Proper e) (n : ℕ) (P R seen : List ℕ) (s : ℕ) 
     once : visited.met c (block e P s) seen₁ ≡ one_visit e n P R h Root true seen s
     once = root_visited e n P R seen h true s (visited.met c (block e P s) seen₁) ec
 
-    pub root_fault : (o : List ℕ) (r : Refusal) → c ≡ Faulty r → (sx ox : List ℕ)
-        → met (Fault r) sx ox ≡ note e n P R h Root true seen s 0 0 o
+    pub root_fault : (o : List ℕ) (r : Refusal) → c ≡ Err r → (sx ox : List ℕ)
+        → met (Err r) sx ox ≡ note e n P R h Root true seen s 0 0 o
     root_fault o r er sx ox = note_fault e n P R h Root true seen s 0 0 o c seen₁ once r er sx ox
 
-    module _ (pc : c ≡ Passed) (blk : List ℕ) (eb : blk ≡ block e P s) (m : ℕ) (em : m ≡ count_of blk) where
-      pub root_leaf : (o : List ℕ) → h ≡ 0 → (ox : List ℕ) → ox ≡ set o 0 s → met (Fine m 1) seen₁ ox ≡ note e n P R h Root true seen s 0 0 o
+    module _ (pc : c ≡ Ok tt) (blk : List ℕ) (eb : blk ≡ block e P s) (m : ℕ) (em : m ≡ count_of blk) where
+      pub root_leaf : (o : List ℕ) → h ≡ 0 → (ox : List ℕ) → ox ≡ set o 0 s → met (Ok (m, 1)) seen₁ ox ≡ note e n P R h Root true seen s 0 0 o
       root_leaf o z ox eo =
           let q : 0 + m ≡ m = omega arith in
           let d = count_data e p n P R seen h Root true s 0 0 start c seen₁ once pc blk eb m em z in

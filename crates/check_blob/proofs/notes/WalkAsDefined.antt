@@ -1,14 +1,16 @@
 -- The code's walk against the definition's: an equation for each way out of the block visit, and for each turn of the row visit.
 -- Bytes and leaves so far go in and come out, so a row's answer is that of its last child, or of the first that fails.
+use Rattle.std.specs.Prelude.{Err, Ok}
 use mathlib.Core.Path.{◌≡◌, refl, ap, ◌∙◌, sym}
-use mathlib.Core.Bool.{Bool, true, false}
+use mathlib.Core.Bool.{Bool, false}
 use mathlib.Core.List.{List, [], ◌∷◌, ◌++◌, map, map-append}
-use Prim.Native.Nat.{ℕ, zero, suc, ◌+◌, ◌-◌, ◌*◌}
+use Prim.Native.Nat.{ℕ, zero, suc, ◌+◌, ◌-◌, ◌*◌, ◌≤◌, ◌<◌}
 use native.Mathlib.Omega.{arith}
 use borrow.Author.Tests.{ne_eqb}
 use lib.Dec.{eqb}
 use lib.ListN.{length, drop, set, length-append, length-map}
 use lib.Seq.{drop-drop}
+use Rattle.meaning.specs.Refusals.{Checked}
 use Rattle.meaning.specs.Lists.{both, part, number, joined, fours}
 use Rattle.meaning.specs.Bytes.{block, count_of, data_of, children_of}
 use Rattle.meaning.specs.Tree.{Tree, content, leaves}
@@ -17,21 +19,8 @@ use Rattle.meaning.specs.declared.Edition.{Edition}
 use Rattle.meaning.specs.declared.Refusal.{Refusal}
 use Rattle.meaning.specs.declared.Role.{Role}
 use Rattle.meaning.specs.declared.Role.TheVariants.{Child}
-use Rattle.meaning.specs.declared.Checked.{Checked}
-use Rattle.meaning.specs.declared.Checked.TheVariants.{Passed, Faulty}
 use Rattle.check_blob.specs.visit as visited
-use Rattle.check_blob.specs.declared.notes.Walked.{Walked}
-use Rattle.check_blob.specs.declared.notes.Walked.TheVariants.{Fault, Fine}
-use Rattle.check_blob.specs.notes.{Noted, met, map_found, put_all, note_leaves, note_tree, note_row, note, notes, last_of}
-
--- whether a child is on the right edge
-pub last_on : (edge : Bool) (left : ℕ) → edge ≡ true → eqb left 1 ≡ last_of edge left
-unfolding last_of both
-last_on edge left e = rw e
-
-pub last_off : (edge : Bool) (left : ℕ) → edge ≡ false → false ≡ last_of edge left
-unfolding last_of both
-last_off edge left e = rw e
+use Rattle.check_blob.specs.notes.{Noted, met, map_found, put_all, note_leaves, note_tree, note_row, note, notes, last_of, Walked}
 
 -- leaves noted one list after the other
 put_append : (l : List ℕ) (i : ℕ) (xs ys : List ℕ) → put_all l i (xs ++ ys) ≡ put_all (put_all l i xs) (i + length xs) ys
@@ -96,6 +85,13 @@ fours_first (suc left) j b n =
     let q : 16 + 4 * j + 4 ≡ 16 + 4 * (j + 1) = omega arith in
     rw (p, drop-drop 4 (16 + 4 * j) b, q)
 
+-- of m child slots, from number j on
+pub fours_next : (m j : ℕ) (b : List ℕ) → j < m
+    → fours (m - j) (drop (16 + 4 * j) b) ≡ number (part (16 + 4 * j) 4 b) ∷ fours (m - (j + 1)) (drop (16 + 4 * (j + 1)) b)
+fours_next m j b l =
+    let p : m - (j + 1) ≡ m - j - 1 = omega arith in
+    rw p (fours_first (m - j) j b (λ z. omega arith))
+
 -- a child is the last one if none are left after it
 none_after : (left : ℕ) (l : List ℕ) → (left ≡ 0 → ⊥) → is_empty (fours (left - 1) l) ≡ eqb left 1
 unfolding is_empty fours
@@ -137,24 +133,24 @@ notes_below e N P R (suc h) edge seen s b k o c ec n =
 
 leaf_below : (e : Edition) (N : ℕ) (P R : List ℕ) (edge : Bool) (seen : List ℕ) (s b k : ℕ) (o : List ℕ) (c : ℕ) (h : ℕ) → h ≡ 0
     → c ≡ length (data_of (block e P s))
-    → met (Fine (b + c) (k + 1)) seen (set o k s) ≡ map_found (note_tree h b k o) (below e N P R h edge s (block e P s) seen)
+    → met (Ok ((b + c), (k + 1))) seen (set o k s) ≡ map_found (note_tree h b k o) (below e N P R h edge s (block e P s) seen)
 unfolding met map_found below note_tree note_leaves content leaves put_all
 leaf_below e N P R edge seen s b k o c h z ec = rw (z, ec)
 
 -- the block visit: c is the answer of the one visit, which leaves the flags seen₁
 module _ (e : Edition) (N : ℕ) (P R : List ℕ) (h : ℕ) (role : Role) (edge : Bool) (seen : List ℕ) (s b k : ℕ) (o : List ℕ)
     (c : Checked) (seen₁ : List ℕ) (ec : visited.met c (block e P s) seen₁ ≡ one_visit e N P R h role edge seen s) where
-  pub note_fault : (r : Refusal) → c ≡ Faulty r → (sx ox : List ℕ) → met (Fault r) sx ox ≡ note e N P R h role edge seen s b k o
+  pub note_fault : (r : Refusal) → c ≡ Err r → (sx ox : List ℕ) → met (Err r) sx ox ≡ note e N P R h role edge seen s b k o
   unfolding note met map_found and_then visited.met
   note_fault r er sx ox = rw (visit_is e N P R h role edge seen s, ← ec, er)
 
-  module _ (pc : c ≡ Passed) where
+  module _ (pc : c ≡ Ok tt) where
     note_in : note e N P R h role edge seen s b k o ≡ map_found (note_tree h b k o) (below e N P R h edge s (block e P s) seen₁)
     unfolding note and_then visited.met
     note_in = rw (visit_is e N P R h role edge seen s, ← ec, pc)
 
     pub note_leaf : h ≡ 0 → (m : ℕ) → m ≡ length (data_of (block e P s)) → (ox : List ℕ) → ox ≡ set o k s
-        → met (Fine (b + m) (k + 1)) seen₁ ox ≡ note e N P R h role edge seen s b k o
+        → met (Ok ((b + m), (k + 1))) seen₁ ox ≡ note e N P R h role edge seen s b k o
     note_leaf z m em ox eo = rw eo (leaf_below e N P R edge seen₁ s b k o m h z em) ∙ sym note_in
 
     pub note_inner : (h ≡ 0 → ⊥) → (blk : List ℕ) → blk ≡ block e P s → (m : ℕ) → m ≡ count_of blk → (r : Walked) (sx ox : List ℕ)
@@ -164,39 +160,42 @@ module _ (e : Edition) (N : ℕ) (P R : List ℕ) (h : ℕ) (role : Role) (edge 
 
 -- the row visit
 notes_none : (e : Edition) (N : ℕ) (P R : List ℕ) (w p : ℕ) (edge : Bool) (l seen : List ℕ) (b k : ℕ) (o : List ℕ)
-    → met (Fine b k) seen o ≡ notes e N P R w p edge (fours 0 l) seen b k o
+    → met (Ok (b, k)) seen o ≡ notes e N P R w p edge (fours 0 l) seen b k o
 unfolding notes met fours visit_row map_found note_row note_leaves joined put_all
 notes_none e N P R w p edge l seen b k o = ap (λ (x : Noted). fine x seen) (same_noted (omega arith) (omega arith) refl)
 
-pub notes_end : (e : Edition) (N : ℕ) (P R : List ℕ) (w p : ℕ) (edge : Bool) (left : ℕ) (l seen : List ℕ) (b k : ℕ) (o : List ℕ)
-    (all : Found Noted) → all ≡ notes e N P R w p edge (fours left l) seen b k o → left ≡ 0 → met (Fine b k) seen o ≡ all
-notes_end e N P R w p edge left l seen b k o all ea z = rw (ea, z) (notes_none e N P R w p edge l seen b k o)
+pub notes_end : (e : Edition) (N : ℕ) (P R : List ℕ) (w p : ℕ) (edge : Bool) (m j : ℕ) (l seen : List ℕ) (b k : ℕ) (o : List ℕ)
+    (all : Found Noted) → all ≡ notes e N P R w p edge (fours (m - j) l) seen b k o → m ≤ j → met (Ok (b, k)) seen o ≡ all
+notes_end e N P R w p edge m j l seen b k o all ea h =
+    let z : m - j ≡ 0 = omega arith in
+    rw (ea, z) (notes_none e N P R w p edge l seen b k o)
 
--- c is the first child of those left, visited in its role by here, which leaves flags sy and row oy; all is what the whole row comes to
-module _ (e : Edition) (N : ℕ) (P R : List ℕ) (w p : ℕ) (edge : Bool) (left j : ℕ) (seen : List ℕ) (b k : ℕ) (o : List ℕ)
-    (some : left ≡ 0 → ⊥) (c : ℕ) (ec : c ≡ number (part (16 + 4 * j) 4 (block e P p))) (last : Bool) (el : last ≡ last_of edge left)
+-- c is child j of the m, visited in its role by here, which leaves flags sy and row oy; all is what the whole row comes to
+module _ (e : Edition) (N : ℕ) (P R : List ℕ) (w p : ℕ) (edge : Bool) (m j : ℕ) (seen : List ℕ) (b k : ℕ) (o : List ℕ)
+    (some : j < m) (c : ℕ) (ec : c ≡ number (part (16 + 4 * j) 4 (block e P p))) (last : Bool) (el : last ≡ last_of edge (m - j))
     (role : Role) (er : role ≡ Child p) (here : Walked) (sy oy : List ℕ) (eh : met here sy oy ≡ note e N P R w role last seen c b k o) where
   abbrev whole : Found Noted
-  whole = notes e N P R w p edge (fours left (drop (16 + 4 * j) (block e P p))) seen b k o
+  whole = notes e N P R w p edge (fours (m - j) (drop (16 + 4 * j) (block e P p))) seen b k o
 
   abbrev rest : List ℕ
-  rest = fours (left - 1) (drop (16 + 4 * (j + 1)) (block e P p))
+  rest = fours (m - (j + 1)) (drop (16 + 4 * (j + 1)) (block e P p))
 
   whole_is : whole ≡ and_then (met here sy oy) (λ x seen'. notes e N P R w p edge rest seen' x.bytes x.leaves x.row)
   unfolding last_of
   whole_is =
-      let l : both edge (is_empty rest) ≡ last = rw (none_after left (drop (16 + 4 * (j + 1)) (block e P p)) some) (sym el) in
-      let q : fours left (drop (16 + 4 * j) (block e P p)) ≡ c ∷ rest = rw (fours_first left j (block e P p) some, ← ec) in
+      let r : m - (j + 1) ≡ m - j - 1 = omega arith in
+      let l : both edge (is_empty rest) ≡ last = rw (r, none_after (m - j) (drop (16 + 4 * (j + 1)) (block e P p)) (λ z. omega arith)) (sym el) in
+      let q : fours (m - j) (drop (16 + 4 * j) (block e P p)) ≡ c ∷ rest = rw (fours_next m j (block e P p) some, ← ec) in
       let h : met here sy oy ≡ note e N P R w (Child p) last seen c b k o = rw er at eh in
       ap (λ (cs : List ℕ). notes e N P R w p edge cs seen b k o) q
       ∙ notes_cons e N P R w p edge c rest seen b k o
       ∙ rw (l, ← h)
 
   module _ (all : Found Noted) (ea : all ≡ whole) where
-    pub notes_stop : (r : Refusal) → here ≡ Fault r → (sx ox : List ℕ) → met here sx ox ≡ all
+    pub notes_stop : (r : Refusal) → here ≡ Err r → (sx ox : List ℕ) → met here sx ox ≡ all
     unfolding met and_then
     notes_stop r er sx ox = rw (ea, whole_is, er)
 
-    pub notes_on : (b' k' : ℕ) → here ≡ Fine b' k' → all ≡ notes e N P R w p edge rest sy b' k' oy
+    pub notes_on : (b' k' : ℕ) → here ≡ Ok (b', k') → all ≡ notes e N P R w p edge rest sy b' k' oy
     unfolding met and_then
     notes_on b' k' eb = rw (ea, whole_is, eb)

@@ -1,34 +1,34 @@
 -- One visit in code: an equation for each way out of check 1, and for each way out of the visit.
+use Rattle.std.specs.Prelude.{Err, Ok}
 use mathlib.Core.Path.{◌≡◌, ◌∙◌, sym}
-use mathlib.Core.Bool.{Bool, true, false}
+use mathlib.Core.Bool.{Bool, true}
 use mathlib.Core.List.{List}
 use Prim.Native.Nat.{ℕ, ◌+◌, ◌*◌, ◌≤◌, ◌<◌}
 use native.Mathlib.Nat.{mul-le-mul_left}
 use native.Mathlib.Omega.{arith}
 use borrow.Author.Tests.{eq-eqb, ne_eqb, lt-ltb, le-ltb}
 use lib.ListN.{length, get_or, set}
+use Rattle.meaning.specs.declared.Reason.TheVariants.{Reintroduced, WrongShape}
 use Rattle.meaning.specs.Lists.{both, part, number}
 use Rattle.meaning.specs.Bytes.{block, record_at, state_of, recorded_of, state, recorded}
-use Rattle.meaning.specs.Refusals.{at, must}
+use Rattle.meaning.specs.Refusals.{at, must, Checked}
 use Rattle.meaning.specs.Walk.{Found, passing, block_check, is_root, link_check, one_visit}
 use Rattle.meaning.specs.declared.Edition.{Edition}
 use Rattle.meaning.specs.declared.Refusal.{Refusal}
 use Rattle.meaning.specs.declared.Role.{Role}
 use Rattle.meaning.specs.declared.Role.TheVariants.{Root, Child}
-use Rattle.meaning.specs.declared.Checked.{Checked}
-use Rattle.meaning.specs.declared.Checked.TheVariants.{Passed, Faulty}
 use Rattle.laws.proofs.Inversions.{passed_linked}
 use Rattle.laws.proofs.Codec.{state_is}
 use Rattle.check_blob.specs.visit.{Sized, Within, met, marked}
 
 -- check 1, as far as the code has come: rb is the slot's record, st its state
 module _ (N : ℕ) (R seen : List ℕ) (role : Role) (s : ℕ) where
-  pub link_root : role ≡ Root → Passed ≡ link_check N R seen role s
+  pub link_root : role ≡ Root → Ok tt ≡ link_check N R seen role s
   unfolding link_check
   link_root e = rw e
 
   module _ (p : ℕ) (ep : role ≡ Child p) where
-    pub link_past : N ≤ s → (r : Refusal) → r ≡ at 8 p → Faulty r ≡ link_check N R seen role s
+    pub link_past : N ≤ s → (r : Refusal) → r ≡ at WrongShape p → Err r ≡ link_check N R seen role s
     unfolding link_check must both
     link_past l r er = rw (ep, er) (simp (le-ltb s N l))
 
@@ -36,33 +36,25 @@ module _ (N : ℕ) (R seen : List ℕ) (role : Role) (s : ℕ) where
       of_state : state R s ≡ st
       of_state = sym (state_is R s rb eb st es)
 
-      pub link_state : st ≡ 2 → (r : Refusal) → r ≡ at 8 p → Faulty r ≡ link_check N R seen role s
+      pub link_state : st ≡ 2 → (r : Refusal) → r ≡ at WrongShape p → Err r ≡ link_check N R seen role s
       unfolding link_check must both
       link_state z r er = rw (ep, er) (simp (lt-ltb s N l, of_state, eq-eqb st 2 z))
 
       module _ (n : st ≡ 2 → ⊥) where
-        pub link_seen : (get_or seen s 0 ≡ 0 → ⊥) → (r : Refusal) → r ≡ at 8 p → Faulty r ≡ link_check N R seen role s
+        pub link_seen : (get_or seen s 0 ≡ 0 → ⊥) → (r : Refusal) → r ≡ at WrongShape p → Err r ≡ link_check N R seen role s
         unfolding link_check must both
         link_seen m r er = rw (ep, er) (simp (lt-ltb s N l, of_state, ne_eqb st 2 n, ne_eqb (get_or seen s 0) 0 m))
 
         module _ (m : get_or seen s 0 ≡ 0) where
-          pub link_free : (st ≡ 1 → ⊥) → (r : Refusal) → r ≡ at 9 s → Faulty r ≡ link_check N R seen role s
+          pub link_free : (st ≡ 1 → ⊥) → (r : Refusal) → r ≡ at Reintroduced s → Err r ≡ link_check N R seen role s
           unfolding link_check must both
           link_free k r er =
               rw (ep, er) (simp (lt-ltb s N l, of_state, ne_eqb st 2 n, eq-eqb (get_or seen s 0) 0 m, ne_eqb st 1 k))
 
-          pub link_good : st ≡ 1 → Passed ≡ link_check N R seen role s
+          pub link_good : st ≡ 1 → Ok tt ≡ link_check N R seen role s
           unfolding link_check must both
           link_good k =
               rw ep (simp (lt-ltb s N l, of_state, ne_eqb st 2 n, eq-eqb (get_or seen s 0) 0 m, eq-eqb st 1 k))
-
-pub role_root : (role : Role) → role ≡ Root → true ≡ is_root role
-unfolding is_root
-role_root role e = rw e
-
-pub role_child : (role : Role) (p : ℕ) → role ≡ Child p → false ≡ is_root role
-unfolding is_root
-role_child role p e = rw e
 
 -- checks 2 and 3 of a slot are those of its block, with its record's version
 pub slot_checked : (e : Edition) (P R : List ℕ) (h : ℕ) (root edge : Bool) (s : ℕ) (rb : List ℕ) → rb ≡ record_at R s
@@ -83,7 +75,7 @@ pub child_is : (e : Edition) (P : List ℕ) (s i : ℕ) (b : List ℕ) → b ≡
 child_is e P s i b eb x ex = ex ∙ rw eb
 
 -- a slot that passes check 1 lies in the pool
-pub linked_within : (n : ℕ) (R seen : List ℕ) (role : Role) (s : ℕ) → Within n role s → link_check n R seen role s ≡ Passed → s < n
+pub linked_within : (n : ℕ) (R seen : List ℕ) (role : Role) (s : ℕ) → Within n role s → link_check n R seen role s ≡ Ok tt → s < n
 unfolding Within
 linked_within n R seen Root s w q = w
 linked_within n R seen (Child p) s w q = (passed_linked n R seen p s q).within
@@ -91,11 +83,11 @@ linked_within n R seen (Child p) s w q = (passed_linked n R seen p s q).within
 -- checks 2 and 3, and the mark: checked is the answer of the checks
 module _ (e : Edition) (P R seen : List ℕ) (h : ℕ) (root edge : Bool) (s : ℕ) (checked : Checked)
     (ec : checked ≡ block_check e h root edge (recorded R s) s (block e P s)) where
-  pub mark_faulty : (r : Refusal) → checked ≡ Faulty r → (b seen' : List ℕ) → met checked b seen' ≡ marked e P R h root edge seen s
+  pub mark_faulty : (r : Refusal) → checked ≡ Err r → (b seen' : List ℕ) → met checked b seen' ≡ marked e P R h root edge seen s
   unfolding met marked passing
   mark_faulty r er b seen' = rw er (simp (← ec, er))
 
-  pub mark_passed : checked ≡ Passed → met Passed (block e P s) (set seen s 1) ≡ marked e P R h root edge seen s
+  pub mark_passed : checked ≡ Ok tt → met (Ok tt) (block e P s) (set seen s 1) ≡ marked e P R h root edge seen s
   unfolding met marked passing
   mark_passed pc = simp (← ec, pc)
 
@@ -108,11 +100,11 @@ root_visited e n P R seen h edge s x ex = ex
 -- one visit: link is the answer of check 1
 module _ (e : Edition) (n : ℕ) (P R seen : List ℕ) (h : ℕ) (role : Role) (edge : Bool) (s : ℕ)
     (link : Checked) (el : link ≡ link_check n R seen role s) where
-  pub visit_unlinked : (r : Refusal) → link ≡ Faulty r → (b seen' : List ℕ) → met link b seen' ≡ one_visit e n P R h role edge seen s
+  pub visit_unlinked : (r : Refusal) → link ≡ Err r → (b seen' : List ℕ) → met link b seen' ≡ one_visit e n P R h role edge seen s
   unfolding met one_visit passing
   visit_unlinked r er b seen' = rw er (simp (← el, er))
 
-  module _ (pl : link ≡ Passed) where
+  module _ (pl : link ≡ Ok tt) where
     -- behind check 1 the slot lies in the pool
     pub visit_within : Within n role s → s < n
     visit_within w = linked_within n R seen role s w (sym el ∙ pl)

@@ -12,8 +12,7 @@ use Rattle.meaning.specs.declared.Edition.{Edition}
 use Rattle.meaning.specs.declared.Role.TheVariants.{Root}
 use Rattle.check_blob.specs.visit.{Sized, Within}
 use Rattle.check_blob.proofs.visit.VisitAsDefined.{slot_fits}
-use Rattle.check_blob.specs.declared.notes.Walked.{Walked}
-use Rattle.check_blob.specs.notes.{met, map_found, note_tree, note_blob, note, note_root, Fresh, BlockStart}
+use Rattle.check_blob.specs.notes.{met, map_found, note_tree, note_blob, note, note_root, Fresh, BlockStart, Walked}
 
 root_noted : (h : ℕ) (o : List ℕ) (F : Found (Tree h))
     → map_found (note_tree h 0 0 o) F ≡ map_found (note_blob o) (and_then F (λ t seen'. fine (record { height = h; tree = t }) seen'))
@@ -22,11 +21,11 @@ root_noted h o (fault r) = refl
 root_noted h o (fine t seen) = refl
 
 pub root_is : (e : Edition) (N : ℕ) (P R seen : List ℕ) (s : ℕ) (o : List ℕ) (b : List ℕ) → b ≡ block e P s
-    → (h : ℕ) → h ≡ min (height_of b) e.top → (r : Walked) (sx ox : List ℕ)
+    → (k : ℕ) → k ≡ height_of b → (h : ℕ) → h ≡ min k e.top → (r : Walked) (sx ox : List ℕ)
     → met r sx ox ≡ note e N P R h Root true seen s 0 0 o → met r sx ox ≡ note_root e N P R seen s o
 unfolding note_root from_root note
-root_is e N P R seen s o b eb h eh r sx ox er =
-    er ∙ rw (eh, eb) (root_noted (min (height_of (block e P s)) e.top) o
+root_is e N P R seen s o b eb k ek h eh r sx ox er =
+    er ∙ rw (eh, ek, eb) (root_noted (min (height_of (block e P s)) e.top) o
     (visit e N P R (min (height_of (block e P s)) e.top) Root true seen s))
 
 -- a root lies in the pool, and is where a walk may start

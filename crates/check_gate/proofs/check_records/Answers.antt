@@ -1,9 +1,5 @@
-use Rattle.check_gate.proofs.BehindTheGate.{records_start}
 use Rattle.check_gate.proofs.BehindTheGate.{records_end, records_bad, records_good}
 use Rattle.check_gate.proofs.check_records.Goals as goal
-
-pub loop-i-init : goal.loop-i-init
-loop-i-init c = search records_start
 
 pub returns-then-not-is_sound : goal.returns-then-not-is_sound
 returns-then-not-is_sound c = search records_bad

@@ -6,6 +6,3 @@ use Rattle.check_gate.proofs.check_records.Given as goal
 
 abbrev pub invariant-loop-i : goal.invariant-loop-i
 invariant-loop-i l = records_gate l.records 0 l.n l.n ≡ records_gate l.records l.i (l.n - l.i) l.n
-
-abbrev pub decreases-loop-i : goal.decreases-loop-i
-decreases-loop-i l = l.n - l.i

@@ -1,9 +1,6 @@
--- Past the pool, or by the record's state.
-use Rattle.check_gate.proofs.BehindTheGate.{root_past, root_state}
+-- Below n, by the record's state.
+use Rattle.check_gate.proofs.BehindTheGate.{root_state}
 use Rattle.check_gate.proofs.is_root.Goals as goal
 
 pub returns-then-root-n : goal.returns-then-root-n
 returns-then-root-n c = search root_state
-
-pub returns : goal.returns
-returns c = search root_past

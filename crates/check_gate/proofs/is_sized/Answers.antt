@@ -1,15 +1,9 @@
--- Each way out is a law of refusal 1.
-use Rattle.check_gate.proofs.BehindTheGate.{sized_not, sized_none, sized_many, sized_records}
+-- The check finds this alone; it stands here so that a test changed in the code fails as a goal that is not met.
+use borrow.Author.Rules.{rules}
+use Rattle.meaning.specs.Lists.{both}
+use Rattle.meaning.specs.Calls.{sized, slots_in}
 use Rattle.check_gate.proofs.is_sized.Goals as goal
 
-pub returns-then-pool-e-ne0 : goal.returns-then-pool-e-ne0
-returns-then-pool-e-ne0 c = search sized_not
-
-pub returns-then-n-lt1 : goal.returns-then-n-lt1
-returns-then-n-lt1 c = search sized_none
-
-pub returns-then-e-n : goal.returns-then-e-n
-returns-then-e-n c = search sized_many
-
-pub returns : goal.returns
-returns c = search sized_records
+pub returns-else-n-e : goal.returns-else-n-e
+unfolding sized slots_in both
+returns-else-n-e c = search rules

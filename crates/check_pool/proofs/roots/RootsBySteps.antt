@@ -1,4 +1,6 @@
 -- The walks from all roots in code: an equation for each way out. Each slot's walk is one step of the definition's walk over all roots.
+use Rattle.std.specs.Prelude.{Err, Ok, Option, Some}
+use Rattle.std.specs.Option.{option_eq}
 use mathlib.Core.Path.{◌≡◌, refl, ap, ◌∙◌, sym}
 use mathlib.Core.Bool.{Bool, true, false}
 use mathlib.Core.List.{List, [], ◌∷◌, ◌++◌}
@@ -14,25 +16,18 @@ use Rattle.meaning.specs.Walk.{Found, fault, fine, and_then, from_root, roots}
 use Rattle.meaning.specs.declared.Edition.{Edition}
 use Rattle.meaning.specs.declared.Refusal.{Refusal}
 use Rattle.laws.proofs.Roots.{walk_root}
-use Rattle.laws.proofs.Ranges.{left_all, left_step, left_none}
+use Rattle.laws.proofs.Ranges.{left_step, left_none}
 use Rattle.laws.proofs.Codec.{state_is}
-use Rattle.check_blob.specs.visit.{Sized}
-use Rattle.check_blob.specs.declared.notes.Walked.{Walked}
-use Rattle.check_blob.specs.declared.notes.Walked.TheVariants.{Fault, Fine}
-use Rattle.check_blob.specs.notes.{Noted, met, map_found, note_blob, note_root}
-use Rattle.check_pool.specs.roots.{kept, note_if_named, note_named, root_step, roots_noted}
-
--- flags of the same length
-pub sized_again : (e : Edition) (n : ℕ) (P R seen₀ seen : List ℕ) → Sized e n P R seen₀ → length seen ≡ length seen₀ → Sized e n P R seen
-sized_again e n P R seen₀ seen z l = record { pool = z.pool; records = z.records; flags = l ∙ z.flags }
+use Rattle.check_blob.specs.notes.{Noted, met, map_found, note_blob, note_root, Walked}
+use Rattle.check_pool.specs.roots.{kept, is_named, note_if_named, note_named, root_step, roots_noted}
 
 -- a blob that is walked from i is the named one exactly if i is
-if_named : (e : Edition) (N : ℕ) (P R seen : List ℕ) (i named : ℕ) (x : Noted) (F : Found Blob) → F ≡ from_root e N P R seen i
-    → map_found (note_if_named named x) F ≡ map_found (λ b. pick (eqb i named) (note_blob x.row b) x) F
+if_named : (e : Edition) (N : ℕ) (P R seen : List ℕ) (i : ℕ) (named : Option ℕ) (x : Noted) (F : Found Blob) → F ≡ from_root e N P R seen i
+    → map_found (note_if_named named x) F ≡ map_found (λ b. pick (is_named named i) (note_blob x.row b) x) F
 unfolding map_found note_if_named
 if_named e N P R seen i named x (fault r) ef = refl
 if_named e N P R seen i named x (fine b seen') ef =
-    ap (λ (j : ℕ). fine (pick (eqb j named) (note_blob x.row b) x) seen') (walk_root e N P R seen i (sym ef))
+    ap (λ (j : ℕ). fine (pick (is_named named j) (note_blob x.row b) x) seen') (walk_root e N P R seen i (sym ef))
 
 -- a walk that faults or finds does so whatever is made of what it finds
 map_fault : {A B C : Type 0} (g : A → B) (h : A → C) (f : Refusal) (F : Found A) → fault f ≡ map_found g F → map_found h F ≡ fault f
@@ -46,7 +41,7 @@ map_fine g y b seen (fault r) e = absurd (let z : ◌≡◌ {A = ℕ} 0 1 = cc i
 map_fine g y b seen (fine a seen') e = cc
 
 -- the walk from one slot: rb is its record, st its state
-module _ (e : Edition) (N : ℕ) (P R : List ℕ) (named i b k : ℕ) (o seen : List ℕ)
+module _ (e : Edition) (N : ℕ) (P R : List ℕ) (named : Option ℕ) (i b k : ℕ) (o seen : List ℕ)
     (rb : List ℕ) (er : rb ≡ record_at R i) (st : ℕ) (es : st ≡ state_of rb) where
   of_state : state R i ≡ st
   of_state = sym (state_is R i rb er st es)
@@ -54,31 +49,31 @@ module _ (e : Edition) (N : ℕ) (P R : List ℕ) (named i b k : ℕ) (o seen : 
   abbrev step : Found Noted
   step = root_step e N P R named i (kept b k o) seen
 
-  pub slot_no_root : (st ≡ 2 → ⊥) → met (Fine b k) seen o ≡ step
+  pub slot_no_root : (st ≡ 2 → ⊥) → met (Ok (b, k)) seen o ≡ step
   unfolding root_step met pick kept
   slot_no_root n = simp (of_state, ne_eqb st 2 n)
 
   module _ (z : st ≡ 2) where
-    step_is : step ≡ map_found (λ c. pick (eqb i named) (note_blob o c) (kept b k o)) (from_root e N P R seen i)
+    step_is : step ≡ map_found (λ c. pick (is_named named i) (note_blob o c) (kept b k o)) (from_root e N P R seen i)
     unfolding root_step pick kept
     step_is = simp (of_state, eq-eqb st 2 z) (if_named e N P R seen i named (kept b k o) (from_root e N P R seen i) refl)
 
-    pub slot_named : i ≡ named → (r : Walked) (sx ox : List ℕ) → met r sx ox ≡ note_root e N P R seen i o → met r sx ox ≡ step
-    unfolding note_root pick
-    slot_named q r sx ox e' = e' ∙ sym (step_is ∙ simp (eq-eqb i named q))
+    pub slot_named : (t : Bool) → t ≡ option_eq eqb named (Some i) → t ≡ true → (r : Walked) (sx ox : List ℕ) → met r sx ox ≡ note_root e N P R seen i o → met r sx ox ≡ step
+    unfolding note_root pick is_named
+    slot_named t et q r sx ox e' = e' ∙ sym (step_is ∙ simp (← et, q))
 
-    module _ (q : i ≡ named → ⊥) (r : Walked) (sx ox or : List ℕ) (e' : met r sx ox ≡ note_root e N P R seen i or) where
-      others : (F : Found Blob) → map_found (λ c. pick (eqb i named) (note_blob o c) (kept b k o)) F ≡ map_found (λ c. kept b k o) F
-      unfolding pick
-      others F = simp (ne_eqb i named q)
+    module _ (t : Bool) (et : t ≡ option_eq eqb named (Some i)) (q : t ≡ false) (r : Walked) (sx ox or : List ℕ) (e' : met r sx ox ≡ note_root e N P R seen i or) where
+      others : (F : Found Blob) → map_found (λ c. pick (is_named named i) (note_blob o c) (kept b k o)) F ≡ map_found (λ c. kept b k o) F
+      unfolding pick is_named
+      others F = simp (← et, q)
 
-      pub slot_stop : (f : Refusal) → r ≡ Fault f → (sy oy : List ℕ) → met r sy oy ≡ step
+      pub slot_stop : (f : Refusal) → r ≡ Err f → (sy oy : List ℕ) → met r sy oy ≡ step
       unfolding met note_root
       slot_stop f ef sy oy =
           let w : fault f ≡ map_found (note_blob or) (from_root e N P R seen i) = rw ef at e' in
           rw ef (sym (step_is ∙ others (from_root e N P R seen i) ∙ map_fault (note_blob or) (λ c. kept b k o) f (from_root e N P R seen i) w))
 
-      pub slot_other : (b' k' : ℕ) → r ≡ Fine b' k' → (oy : List ℕ) → oy ≡ o → met (Fine b k) sx oy ≡ step
+      pub slot_other : (b' k' : ℕ) → r ≡ Ok (b', k') → (oy : List ℕ) → oy ≡ o → met (Ok (b, k)) sx oy ≡ step
       unfolding met note_root kept
       slot_other b' k' ef oy eo =
           let w : fine (record { bytes = b'; leaves = k'; row = ox }) sx ≡ map_found (note_blob or) (from_root e N P R seen i) = rw ef at e' in
@@ -90,13 +85,13 @@ lent_nothing l [] h = refl
 lent_nothing l (x ∷ ys) h = absurd (omega arith)
 
 -- the walks from all roots are a step at each slot
-rest_noted : (named : ℕ) (x : Noted) (b : Blob) (F : Found (List Blob))
+rest_noted : (named : Option ℕ) (x : Noted) (b : Blob) (F : Found (List Blob))
     → map_found (note_named named x) (and_then F (λ bs seen. fine (b ∷ bs) seen)) ≡ map_found (note_named named (note_if_named named x b)) F
 unfolding map_found and_then note_named
 rest_noted named x b (fault r) = refl
 rest_noted named x b (fine bs seen) = refl
 
-first_noted : (named : ℕ) (x : Noted) (F : Found Blob) (G : List ℕ → Found (List Blob))
+first_noted : (named : Option ℕ) (x : Noted) (F : Found Blob) (G : List ℕ → Found (List Blob))
     → map_found (note_named named x) (and_then F (λ b seen'. and_then (G seen') (λ bs seen''. fine (b ∷ bs) seen'')))
     ≡ and_then (map_found (note_if_named named x) F) (λ y seen'. map_found (note_named named y) (G seen'))
 unfolding map_found and_then
@@ -113,7 +108,7 @@ unfolding pick
 pick_then true F G k = refl
 pick_then false F G k = refl
 
-module _ (e : Edition) (N : ℕ) (P R : List ℕ) (named : ℕ) where
+module _ (e : Edition) (N : ℕ) (P R : List ℕ) (named : Option ℕ) where
   roots_step : (s : ℕ) (ss : List ℕ) (x : Noted) (seen : List ℕ) → roots_noted e N P R named (s ∷ ss) x seen
       ≡ and_then (root_step e N P R named s x seen) (λ y seen'. roots_noted e N P R named ss y seen')
   unfolding roots_noted root_step roots and_then
@@ -123,13 +118,10 @@ module _ (e : Edition) (N : ℕ) (P R : List ℕ) (named : ℕ) where
       (first_noted named x (from_root e N P R seen s) (λ seen'. roots e N P R ss seen'))
       ∙ sym (pick_then (eqb (state R s) 2) (map_found (note_if_named named x) (from_root e N P R seen s)) (fine x seen) (λ y seen'. roots_noted e N P R named ss y seen'))
 
-  pub roots_start : (x : Noted) (seen : List ℕ) → roots_noted e N P R named (range 0 N) x seen ≡ roots_noted e N P R named (range 0 (N - 0)) x seen
-  roots_start x seen = rw (left_all N)
-
   -- the loop over the slots: all from the start are all from i on
   module _ (x₀ : Noted) (seen₀ : List ℕ) (i b k : ℕ) (o seen : List ℕ)
       (inv : roots_noted e N P R named (range 0 N) x₀ seen₀ ≡ roots_noted e N P R named (range i (N - i)) (kept b k o) seen) where
-    pub roots_end : N ≤ i → met (Fine b k) seen o ≡ roots_noted e N P R named (range 0 N) x₀ seen₀
+    pub roots_end : N ≤ i → met (Ok (b, k)) seen o ≡ roots_noted e N P R named (range 0 N) x₀ seen₀
     unfolding roots_noted roots map_found note_named met kept
     roots_end l = sym (rw (inv, left_none i N l))
 
@@ -139,11 +131,11 @@ module _ (e : Edition) (N : ℕ) (P R : List ℕ) (named : ℕ) where
           let a = roots_step i (range (i + 1) (N - (i + 1))) (kept b k o) seen in
           rw (inv, left_step i N l) (rw (← e') at a)
 
-      pub roots_stop : (f : Refusal) → r ≡ Fault f → (sy oy : List ℕ) → met r sy oy ≡ roots_noted e N P R named (range 0 N) x₀ seen₀
+      pub roots_stop : (f : Refusal) → r ≡ Err f → (sy oy : List ℕ) → met r sy oy ≡ roots_noted e N P R named (range 0 N) x₀ seen₀
       unfolding met and_then
       roots_stop f ef sy oy = rw (next, ef)
 
-      pub roots_on : (b' k' : ℕ) → r ≡ Fine b' k'
+      pub roots_on : (b' k' : ℕ) → r ≡ Ok (b', k')
           → roots_noted e N P R named (range 0 N) x₀ seen₀ ≡ roots_noted e N P R named (range (i + 1) (N - (i + 1))) (kept b' k' ox) sx
       unfolding met and_then kept
       roots_on b' k' ef = rw (next, ef)

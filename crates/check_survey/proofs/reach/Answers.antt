@@ -2,27 +2,28 @@
 use Rattle.check_survey.proofs.BehindTheSurvey.{seen_reaches, places_reach, heights_reach, firsts_reach, reach_barred, reach_room, reach_fault, reach_blob}
 use borrow.Author.Rules.{rules}
 use Rattle.check_survey.proofs.reach.Goals as goal
+use Rattle.laws.proofs.HandedOn.{handed}
 
 pub slice_bounds-survey_root-end : goal.slice_bounds-survey_root-end
-slice_bounds-survey_root-end c = search seen_reaches
+slice_bounds-survey_root-end c = search (seen_reaches, c.in_ok-slots.was)
 
-pub slice_bounds-survey_root-end-in-Slots : goal.slice_bounds-survey_root-end-in-Slots
-slice_bounds-survey_root-end-in-Slots c = search places_reach
+pub slice_bounds-survey_root-end-2 : goal.slice_bounds-survey_root-end-2
+slice_bounds-survey_root-end-2 c = search (places_reach, c.in_ok-slots.was)
 
-pub slice_bounds-survey_root-end-in-Slots-2 : goal.slice_bounds-survey_root-end-in-Slots-2
-slice_bounds-survey_root-end-in-Slots-2 c = search heights_reach
+pub slice_bounds-survey_root-end-3 : goal.slice_bounds-survey_root-end-3
+slice_bounds-survey_root-end-3 c = search (heights_reach, c.in_ok-slots.was)
 
-pub slice_bounds-survey_root-end-in-Slots-3 : goal.slice_bounds-survey_root-end-in-Slots-3
-slice_bounds-survey_root-end-in-Slots-3 c = search firsts_reach
+pub slice_bounds-survey_root-end-4 : goal.slice_bounds-survey_root-end-4
+slice_bounds-survey_root-end-4 c = search (firsts_reach, c.in_ok-slots.was)
 
-pub survey_root-walked-requires : goal.survey_root-walked-requires
-survey_root-walked-requires c = record { proper = search rules; room = search reach_room }
+pub survey_root-requires : goal.survey_root-requires
+survey_root-requires c = record { proper = search rules; room = search (reach_room, c.in_ok-slots.was) }
 
-pub returns-in-Refused : goal.returns-in-Refused
-returns-in-Refused c = search reach_barred
+pub returns-in_err-slots : goal.returns-in_err-slots
+returns-in_err-slots c = rw (handed c.from_residual.ensures.1) (search (reach_barred, c.in_err-slots.was))
 
-pub returns-in-Fault : goal.returns-in-Fault
-returns-in-Fault c = search reach_fault
+pub returns-in_err-bytes : goal.returns-in_err-bytes
+returns-in_err-bytes c = rw (handed c.from_residual-in_err-bytes.ensures.1) (search (reach_fault, c.in_ok-slots.was, c.in_err-bytes.was))
 
-pub returns-in-Fine : goal.returns-in-Fine
-returns-in-Fine c = search reach_blob
+pub returns : goal.returns
+returns c = search (reach_blob, c.in_ok-slots.was, c.in_ok-bytes.was)

@@ -4,8 +4,6 @@ use mathlib.Core.List.{List, ◌∷◌}
 use Prim.Native.Nat.{ℕ, zero, suc, ◌+◌, ◌-◌, ◌*◌, ◌^◌, ◌≤◌, ◌<◌}
 use native.Mathlib.Omega.{arith}
 use lib.ListN.{length, drop, set, length-set}
-use mir.Syntax.{w64}
-use mir.Val.{Fits}
 use Rattle.meaning.specs.declared.Edition.{Edition}
 use Rattle.meaning.specs.Lists.{part, number, fours}
 use Rattle.meaning.specs.Bytes.{block, height_of, count_of, children_of}
@@ -15,7 +13,7 @@ use Rattle.check_blob.proofs.visit.VisitAsDefined.{slot_fits}
 use Rattle.laws.proofs.Every.{Every}
 use Rattle.check_survey.specs.sites.Spelt.{Fit, blob_at, Inside, tree_leaves, row_leaves}
 use Rattle.check_survey.specs.sites.Marks.{Ready, BlockStart, RowStart, SitesStart}
-use Rattle.check_blob.proofs.notes.WalkAsDefined.{fours_first}
+use Rattle.check_blob.proofs.notes.WalkAsDefined.{fours_next}
 use Rattle.check_survey.proofs.sites.NotedAsTheyStand.{inner_leaves, row_leaves_lem}
 
 -- a tree's own block fits
@@ -48,9 +46,6 @@ module _ (e : Edition) (n : ℕ) (P hs fs : List ℕ) (h s k : ℕ) (start : Blo
   pub few_enough : k < 2 ^ 32
   few_enough = omega (arith, start.few)
 
-  pub one_more : Fits w64 (k + 1)
-  one_more = record { fits = omega (arith, start.few) }
-
   pub block_in_pool : e.size * s + e.size ≤ length P
   block_in_pool = slot_fits e.size n s P start.ready.pool within
 
@@ -73,16 +68,13 @@ module _ (e : Edition) (n : ℕ) (P hs fs : List ℕ) (h s k : ℕ) (start : Blo
       }
 
 -- a row
-module _ (e : Edition) (n : ℕ) (P hs fs : List ℕ) (w p from left k : ℕ) (start : RowStart e n P hs fs w p from left k) where
-  pub parent_in_pool : e.size * p + e.size ≤ length P
-  parent_in_pool = slot_fits e.size n p P start.ready.pool start.parent
-
-  module _ (some : left ≡ 0 → ⊥) (c : ℕ) (ec : c ≡ number (part (16 + 4 * from) 4 (block e P p))) where
+module _ (e : Edition) (n : ℕ) (P hs fs : List ℕ) (w p from m k : ℕ) (start : RowStart e n P hs fs w p from (m - from) k) where
+  module _ (some : from < m) (c : ℕ) (ec : c ≡ number (part (16 + 4 * from) 4 (block e P p))) where
     abbrev rest : List ℕ
-    rest = fours (left - 1) (drop (16 + 4 * (from + 1)) (block e P p))
+    rest = fours (m - (from + 1)) (drop (16 + 4 * (from + 1)) (block e P p))
 
-    first_is : fours left (drop (16 + 4 * from) (block e P p)) ≡ c ∷ rest
-    first_is = rw (fours_first left from (block e P p) some, ← ec)
+    first_is : fours (m - from) (drop (16 + 4 * from) (block e P p)) ≡ c ∷ rest
+    first_is = rw (fours_next m from (block e P p) some, ← ec)
 
     below : Every (Inside e P n w) (c ∷ rest)
     below = rw first_is at start.inside
@@ -94,7 +86,7 @@ module _ (e : Edition) (n : ℕ) (P hs fs : List ℕ) (w p from left k : ℕ) (s
     child_start = record { ready = start.ready; inside = below.0; low = start.low; few = omega (arith, sum) }
 
     pub row_next : (hs₁ fs₁ : List ℕ) → length hs₁ ≡ length hs → length fs₁ ≡ length fs → (k₁ : ℕ) → k₁ ≡ k + tree_leaves e P w c
-        → RowStart e n P hs₁ fs₁ w p (from + 1) (left - 1) k₁
+        → RowStart e n P hs₁ fs₁ w p (from + 1) (m - (from + 1)) k₁
     row_next hs₁ fs₁ lh lf k₁ ek = record {
       ready = again e n P hs fs hs₁ fs₁ start.ready lh lf;
       parent = start.parent;

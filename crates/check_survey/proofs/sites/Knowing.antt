@@ -1,4 +1,5 @@
 -- What a changing call knows: from the pool check's answer, that the blob's sites may be noted; and from what is noted, `Known`.
+use Rattle.std.specs.Prelude.{Err, Ok, Some}
 use mathlib.Core.Path.{◌≡◌, refl, ap, ◌∙◌, sym, subst}
 use mathlib.Core.Logic.{◌⊎◌, inl, inr}
 use mathlib.Core.Bool.{false}
@@ -20,10 +21,8 @@ use Rattle.meaning.specs.Calls.{Outcome, refused, refuse_if, after_check, with_b
 use Rattle.laws.proofs.Inversions.{by_test}
 use Rattle.laws.proofs.Walked.{leaf_slots, leaf_slots_length}
 use Rattle.laws.proofs.Roots.{Listed, pool_names_root}
-use Rattle.check_blob.specs.declared.notes.Walked.{Walked}
-use Rattle.check_blob.specs.declared.notes.Walked.TheVariants.{Fault, Fine}
-use Rattle.check_blob.specs.notes.{Noted, met, put_all, note_leaves, note_tree, note_blob}
-use Rattle.check_pool.specs.roots.{kept, note_if_named, note_named, pool_noted}
+use Rattle.check_blob.specs.notes.{Noted, met, put_all, note_leaves, note_tree, note_blob, Walked}
+use Rattle.check_pool.specs.roots.{kept, is_named, note_if_named, note_named, pool_noted}
 use Rattle.check_blob.proofs.notes.Answering.{noted_fault, noted_fine}
 use Rattle.laws_resize.specs.growth.Sites.{sites_of}
 use Rattle.laws_resize.proofs.growth.ResizedBySlot.{Standing}
@@ -63,26 +62,26 @@ module _ (n r : ℕ) (b : Blob) (few : length (leaves_of b) ≤ n) where
   named_tells : (x : Noted) (c : Blob) → length x.row ≡ n → c ≡ b → Tells n b (note_blob x.row c)
   named_tells x c size q = rw q (blob_tells n b x.row size few)
 
-  kept_tells : (bs : List Blob) → Only bs → (x : Noted) → Tells n b x → Tells n b (note_named r x bs)
-  unfolding note_named note_if_named pick
+  kept_tells : (bs : List Blob) → Only bs → (x : Noted) → Tells n b x → Tells n b (note_named (Some r) x bs)
+  unfolding note_named note_if_named is_named pick
   kept_tells [] only x t = t
   kept_tells (c ∷ bs) only x t =
-      kept_tells bs (λ d m. only d (Memᴰ.tail m)) (note_if_named r x c)
-      (by_test (eqb (root_of c) r)
-      (λ u. rw u (named_tells x c t.size (only c (Memᴰ.head refl) (eqb-true (root_of c) r u))))
+      kept_tells bs (λ d m. only d (Memᴰ.tail m)) (note_if_named (Some r) x c)
+      (by_test (eqb r (root_of c))
+      (λ u. rw u (named_tells x c t.size (only c (Memᴰ.head refl) (sym (eqb-true r (root_of c) u)))))
       (λ u. rw u t))
 
-  got_tells : (bs : List Blob) → Only bs → Memᴰ b bs → root_of b ≡ r → (x : Noted) → length x.row ≡ n → Tells n b (note_named r x bs)
-  unfolding note_named note_if_named pick
+  got_tells : (bs : List Blob) → Only bs → Memᴰ b bs → root_of b ≡ r → (x : Noted) → length x.row ≡ n → Tells n b (note_named (Some r) x bs)
+  unfolding note_named note_if_named is_named pick
   got_tells [] only m is x size = absurd (Memᴰ.not-nil m)
   got_tells (c ∷ bs) only m is x size =
-      by_test (eqb (root_of c) r)
+      by_test (eqb r (root_of c))
       (λ u. rw u (kept_tells bs (λ d i. only d (Memᴰ.tail i)) (note_blob x.row c)
-      (named_tells x c size (only c (Memᴰ.head refl) (eqb-true (root_of c) r u)))))
+      (named_tells x c size (only c (Memᴰ.head refl) (sym (eqb-true r (root_of c) u))))))
       (λ u. rw u (got_tells bs (λ d i. only d (Memᴰ.tail i)) (later u (Memᴰ.cases_cons m)) is x size))
     where
-      later : eqb (root_of c) r ≡ false → (b ≡ c) ⊎ Memᴰ b bs → Memᴰ b bs
-      later u (inl q) = absurd (eqb-false (root_of c) r u (sym (ap root_of q) ∙ is))
+      later : eqb r (root_of c) ≡ false → (b ≡ c) ⊎ Memᴰ b bs → Memᴰ b bs
+      later u (inl q) = absurd (eqb-false r (root_of c) u (sym is ∙ ap root_of q))
       later u (inr i) = i
 
 -- a pool check that went well, and a root's slot
@@ -118,21 +117,21 @@ unfolding rooted refuse_if both
 rooted_on e n P R r within is o = simp (lt-ltb r n within, eq-eqb (state R r) 2 is)
 
 -- w is the answer of the pool check
-module _ (e : Edition) (n : ℕ) (P R : List ℕ) (r : ℕ) (o : List ℕ) (w : Walked) (sx ox : List ℕ) (ew : met w sx ox ≡ pool_noted e n P R r o) where
+module _ (e : Edition) (n : ℕ) (P R : List ℕ) (r : ℕ) (o : List ℕ) (w : Walked) (sx ox : List ℕ) (ew : met w sx ox ≡ pool_noted e n P R (Some r) o) where
   -- a fault is the pool check's
-  check_fault : (f : Refusal) → w ≡ Fault f → pool_check e n P R ≡ fault f
+  check_fault : (f : Refusal) → w ≡ Err f → pool_check e n P R ≡ fault f
   unfolding met pool_noted
-  check_fault f ef = noted_fault (note_named r (kept 0 0 o)) f (pool_check e n P R) (rw ef at ew)
+  check_fault f ef = noted_fault (note_named (Some r) (kept 0 0 o)) f (pool_check e n P R) (rw ef at ew)
 
   -- and a changing call is refused so
-  pub fault_changing : (f : Refusal) → w ≡ Fault f → r < n → state R r ≡ 2 → {A : Type 0} (k : Blob → Outcome A) → changing e n P R r k ≡ refused f
+  pub fault_changing : (f : Refusal) → w ≡ Err f → r < n → state R r ≡ 2 → {A : Type 0} (k : Blob → Outcome A) → changing e n P R r k ≡ refused f
   unfolding changing after_check
   fault_changing f ef within is k = rooted_on e n P R r within is _ ∙ rw (check_fault f ef)
 
-  module _ (within : r < n) (is : state R r ≡ 2) (len k : ℕ) (ek : w ≡ Fine len k) where
-    passed : (bs : List Blob) × (pool_check e n P R ≡ fine bs sx) × (record { bytes = len; leaves = k; row = ox } ≡ note_named r (kept 0 0 o) bs)
+  module _ (within : r < n) (is : state R r ≡ 2) (len k : ℕ) (ek : w ≡ Ok (len, k)) where
+    passed : (bs : List Blob) × (pool_check e n P R ≡ fine bs sx) × (record { bytes = len; leaves = k; row = ox } ≡ note_named (Some r) (kept 0 0 o) bs)
     unfolding met pool_noted
-    passed = noted_fine (note_named r (kept 0 0 o)) (record { bytes = len; leaves = k; row = ox }) sx (pool_check e n P R) (rw ek at ew)
+    passed = noted_fine (note_named (Some r) (kept 0 0 o)) (record { bytes = len; leaves = k; row = ox }) sx (pool_check e n P R) (rw ek at ew)
 
     module _ (p : Proper e) (whole : length P ≡ e.size * n) (most : n ≤ e.most) (hs fs : List ℕ) (eh : hs ≡ replicate n 0) (lf : length fs ≡ n) where
       walked : WalkedTo e n P R (blob_at e P r)

@@ -1,14 +1,14 @@
 -- What the code notes against where the blocks stand: an equation for each way out of the block's visit, and for each turn of the row's.
 use mathlib.Core.Path.{◌≡◌, refl, ap, ◌∙◌, sym}
 use mathlib.Core.List.{List, [], ◌∷◌, ◌++◌, map}
-use Prim.Native.Nat.{ℕ, suc, ◌+◌, ◌-◌, ◌*◌}
+use Prim.Native.Nat.{ℕ, suc, ◌+◌, ◌-◌, ◌*◌, ◌≤◌, ◌<◌}
 use native.Mathlib.Omega.{arith}
 use lib.ListN.{drop, set, length-append}
 use Rattle.meaning.specs.declared.Edition.{Edition}
 use Rattle.meaning.specs.Lists.{part, number, joined, fours}
 use Rattle.meaning.specs.Bytes.{block, height_of, count_of, children_of}
 use Rattle.meaning.specs.Tree.{slot_of, leaves}
-use Rattle.check_blob.proofs.notes.WalkAsDefined.{fours_first}
+use Rattle.check_blob.proofs.notes.WalkAsDefined.{fours_next}
 use Rattle.laws_resize.specs.growth.Sites.{Site, counting, sites, sites_of}
 use Rattle.check_survey.specs.sites.Spelt.{tree_at, blob_at, tree_sites, row_sites, tree_leaves, row_leaves}
 use Rattle.check_survey.specs.sites.Marks.{puts, tall, begin, Marked}
@@ -23,9 +23,6 @@ puts_append f (x ∷ xs) ys l = puts_append f xs ys (set l x.0 (f x.1))
 pub record Going (all rest : List (ℕ × Site)) (hs₀ fs₀ hs fs : List ℕ) : Type 0 where
   pub heights : puts tall all hs₀ ≡ puts tall rest hs
   pub firsts : puts begin all fs₀ ≡ puts begin rest fs
-
-pub row_begun : (all : List (ℕ × Site)) (hs fs : List ℕ) → Going all all hs fs hs fs
-row_begun all hs fs = record { heights = refl; firsts = refl }
 
 module _ (e : Edition) (P : List ℕ) where
   -- a tree of no height is one leaf, and one of some height its top and then its row
@@ -96,40 +93,39 @@ module _ (e : Edition) (P : List ℕ) where
           ex ∙ ap (λ (z : ℕ). k + z) (rw children (sym (inner_leaves (h - 1) s)) ∙ ap (λ (z : ℕ). tree_leaves e P z s) (sym q))
 
   -- no child is left
-  none_left : (w k left : ℕ) (l : List ℕ) → left ≡ 0 → row_sites e P w k (fours left l) ≡ []
+  none_left : (m j : ℕ) (l : List ℕ) → m ≤ j → fours (m - j) l ≡ []
   unfolding fours
-  none_left w k left l z = rw (z, none_sites w k)
+  none_left m j l h = let z : m - j ≡ 0 = omega arith in rw z
 
-  pub row_end : (w k left : ℕ) (l : List ℕ) (all : List (ℕ × Site)) (hs₀ fs₀ hs fs : List ℕ)
-      → Going all (row_sites e P w k (fours left l)) hs₀ fs₀ hs fs → left ≡ 0 → Marked all hs₀ fs₀ hs fs
+  pub row_end : (w k m j : ℕ) (l : List ℕ) (all : List (ℕ × Site)) (hs₀ fs₀ hs fs : List ℕ)
+      → Going all (row_sites e P w k (fours (m - j) l)) hs₀ fs₀ hs fs → m ≤ j → Marked all hs₀ fs₀ hs fs
   unfolding puts
-  row_end w k left l all hs₀ fs₀ hs fs g z =
-      let n : row_sites e P w k (fours left l) ≡ [] = none_left w k left l z in
+  row_end w k m j l all hs₀ fs₀ hs fs g h =
+      let n : row_sites e P w k (fours (m - j) l) ≡ [] = rw (none_left m j l h, none_sites w k) in
       record {
         heights = sym (g.heights ∙ ap (λ (xs : List (ℕ × Site)). puts tall xs hs) n);
         firsts = sym (g.firsts ∙ ap (λ (xs : List (ℕ × Site)). puts begin xs fs) n);
       }
 
-  pub row_end_counted : (w k left : ℕ) (l : List ℕ) (x : ℕ) → x ≡ k + row_leaves e P w (fours left l) → left ≡ 0 → k ≡ x
-  unfolding fours
-  row_end_counted w k left l x ex z =
-      let n : row_leaves e P w (fours left l) ≡ 0 = rw (z, none_leaves w) in
+  pub row_end_counted : (w k m j : ℕ) (l : List ℕ) (x : ℕ) → x ≡ k + row_leaves e P w (fours (m - j) l) → m ≤ j → k ≡ x
+  row_end_counted w k m j l x ex h =
+      let n : row_leaves e P w (fours (m - j) l) ≡ 0 = rw (none_left m j l h, none_leaves w) in
       omega arith
 
   -- a child c and then the others
-  module _ (w k p j left : ℕ) (some : left ≡ 0 → ⊥) (c : ℕ) (ec : c ≡ number (part (16 + 4 * j) 4 (block e P p)))
+  module _ (w k p j m : ℕ) (some : j < m) (c : ℕ) (ec : c ≡ number (part (16 + 4 * j) 4 (block e P p)))
       (k₁ : ℕ) (ek : k₁ ≡ k + tree_leaves e P w c) where
     abbrev rest : List ℕ
-    rest = fours (left - 1) (drop (16 + 4 * (j + 1)) (block e P p))
+    rest = fours (m - (j + 1)) (drop (16 + 4 * (j + 1)) (block e P p))
 
-    first_is : fours left (drop (16 + 4 * j) (block e P p)) ≡ c ∷ rest
-    first_is = rw (fours_first left j (block e P p) some, ← ec)
+    first_is : fours (m - j) (drop (16 + 4 * j) (block e P p)) ≡ c ∷ rest
+    first_is = rw (fours_next m j (block e P p) some, ← ec)
 
-    sites_first : row_sites e P w k (fours left (drop (16 + 4 * j) (block e P p))) ≡ tree_sites e P w k c ++ row_sites e P w k₁ rest
+    sites_first : row_sites e P w k (fours (m - j) (drop (16 + 4 * j) (block e P p))) ≡ tree_sites e P w k c ++ row_sites e P w k₁ rest
     sites_first = rw (first_is, ek) (row_sites_lem w k c rest)
 
     pub row_on : (all : List (ℕ × Site)) (hs₀ fs₀ hs fs hs₁ fs₁ : List ℕ)
-        → Going all (row_sites e P w k (fours left (drop (16 + 4 * j) (block e P p)))) hs₀ fs₀ hs fs
+        → Going all (row_sites e P w k (fours (m - j) (drop (16 + 4 * j) (block e P p)))) hs₀ fs₀ hs fs
         → Marked (tree_sites e P w k c) hs fs hs₁ fs₁ → Going all (row_sites e P w k₁ rest) hs₀ fs₀ hs₁ fs₁
     row_on all hs₀ fs₀ hs fs hs₁ fs₁ g a = record {
       heights = g.heights ∙ ap (λ (xs : List (ℕ × Site)). puts tall xs hs) sites_first
@@ -140,10 +136,10 @@ module _ (e : Edition) (P : List ℕ) where
           ∙ ap (puts begin (row_sites e P w k₁ rest)) (sym a.firsts);
     }
 
-    pub row_on_counted : (x : ℕ) → x ≡ k + row_leaves e P w (fours left (drop (16 + 4 * j) (block e P p)))
+    pub row_on_counted : (x : ℕ) → x ≡ k + row_leaves e P w (fours (m - j) (drop (16 + 4 * j) (block e P p)))
         → x ≡ k₁ + row_leaves e P w rest
     row_on_counted x ex =
-        let l : row_leaves e P w (fours left (drop (16 + 4 * j) (block e P p))) ≡ tree_leaves e P w c + row_leaves e P w rest
+        let l : row_leaves e P w (fours (m - j) (drop (16 + 4 * j) (block e P p))) ≡ tree_leaves e P w c + row_leaves e P w rest
         = rw first_is (row_leaves_lem w c rest) in
         omega (arith, ek)
 

@@ -9,6 +9,7 @@ use native.Mathlib.Omega.{arith}
 use borrow.Author.Tests.{eq-eqb, ne_eqb, eqb-true, eqb-false, ltb-true, not-false}
 use lib.Dec.{eqb, ltb}
 use lib.ListN.{get_or}
+use Rattle.meaning.specs.declared.Reason.TheVariants.{WornOut}
 use Rattle.meaning.specs.declared.Edition.{Edition}
 use Rattle.meaning.specs.Lists.{pick, range, all}
 use Rattle.meaning.specs.Bytes.{recorded, last_version}
@@ -116,7 +117,7 @@ module _ (e : Edition) (n : ℕ) (P R : List ℕ) (r len k : ℕ) (row hs fs : L
   worn_blob = ap not (same_test (fresh_from R hs 0 n) (all (λ s. ltb (recorded R s) last_version) (slots_of (blob_at e P r))) blob_fresh fresh_blob)
 
   -- so a worn blob is refused, and any other is not
-  pub worn_refused : worn_among R hs n ≡ true → {A : Type 0} (o : Outcome A) → refuse_worn e n P R (blob_at e P r) o ≡ refused (nowhere 12)
+  pub worn_refused : worn_among R hs n ≡ true → {A : Type 0} (o : Outcome A) → refuse_worn e n P R (blob_at e P r) o ≡ refused (nowhere WornOut)
   unfolding refuse_worn refuse_if
   worn_refused w o = let t = sym worn_blob ∙ w in rw t
 

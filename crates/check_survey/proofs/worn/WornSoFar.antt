@@ -1,25 +1,22 @@
--- The loop over the slots: an equation for each way out.
-use mathlib.Core.Path.{◌≡◌, ◌∙◌, sym}
-use mathlib.Core.Bool.{Bool, true, false, not}
-use mathlib.Core.List.{List}
-use Prim.Native.Nat.{ℕ, ◌+◌, ◌-◌, ◌≤◌, ◌<◌}
+-- A slot is worn by its version, and a blob if one of its slots is.
+use mathlib.Core.Path.{◌≡◌, refl, ap, ◌∙◌, sym}
+use mathlib.Core.Bool.{Bool, false, not}
+use mathlib.Core.List.{List, [], ◌∷◌}
+use Prim.Native.Nat.{ℕ, ◌<◌}
 use native.Mathlib.Omega.{arith}
-use borrow.Author.Tests.{eq-eqb, ne_eqb, lt-ltb, le-ltb, eqb-true, eqb-false, not-true, not-false}
+use borrow.Author.Tests.{ne_eqb, lt-ltb, le-ltb, eqb-true, eqb-false, not-true, not-false}
 use lib.Dec.{eqb, ltb}
 use lib.ListN.{get_or}
-use Rattle.meaning.specs.Lists.{pick, both, all}
+use Rattle.std.specs.List.{list_any, range_with_len}
+use Rattle.meaning.specs.Lists.{pick, both, all, range}
 use Rattle.meaning.specs.Bytes.{record_at, recorded_of, last_version}
 use Rattle.laws.proofs.Inversions.{by_test}
-use Rattle.laws.proofs.Ranges.{left_all, left_step, left_none}
+use Rattle.base_slot.proofs.usable.UsableInOrder.{numbers_same}
 use Rattle.laws.proofs.Codec.{version_is}
 use Rattle.check_survey.specs.worn.{fresh_slot, fresh_from, worn_among}
 
--- one slot: none of the blob, or by its version, which is at most the last
+-- one slot of the blob: by its version, which is at most the last
 module _ (R hs : List ℕ) (s : ℕ) where
-  pub slot_other : get_or hs s 0 ≡ 0 → false ≡ not (fresh_slot R hs s)
-  unfolding fresh_slot pick
-  slot_other z = rw (eq-eqb (get_or hs s 0) 0 z)
-
   last_or_less : (v : ℕ) → v < 0x1_0000_0000_0000_0000 → eqb v 0xFFFF_FFFF_FFFF_FFFF ≡ not (ltb v 0xFFFF_FFFF_FFFF_FFFF)
   last_or_less v l =
       by_test (eqb v 0xFFFF_FFFF_FFFF_FFFF)
@@ -31,30 +28,12 @@ module _ (R hs : List ℕ) (s : ℕ) where
   unfolding fresh_slot pick last_version
   slot_version o rb er v ev l = last_or_less v l ∙ sym (rw (ne_eqb (get_or hs s 0) 0 o, ← version_is R s rb er v ev))
 
-module _ (R hs : List ℕ) where
-  -- the slots from i on, by whether i is fresh
-  from_step : (i n : ℕ) → i < n → fresh_from R hs i (n - i) ≡ both (fresh_slot R hs i) (fresh_from R hs (i + 1) (n - (i + 1)))
-  unfolding fresh_from all
-  from_step i n h = rw (left_step i n h)
+-- one of a list is worn exactly if not all of it are fresh
+any_not_all : (p : ℕ → Bool) (l : List ℕ) → list_any (λ i. not (p i)) l ≡ not (all p l)
+unfolding all both
+any_not_all p [] = refl
+any_not_all p (x ∷ l) = by_test (p x) (λ t. rw t (any_not_all p l)) (λ t. rw t refl)
 
-  from_none : (i n : ℕ) → n ≤ i → fresh_from R hs i (n - i) ≡ true
-  unfolding fresh_from all
-  from_none i n h = rw (left_none i n h)
-
-  pub worn_start : (n : ℕ) → fresh_from R hs 0 n ≡ fresh_from R hs 0 (n - 0)
-  unfolding fresh_from
-  worn_start n = rw (left_all n)
-
-  module _ (n i : ℕ) (inv : fresh_from R hs 0 n ≡ fresh_from R hs i (n - i)) where
-    pub worn_none : n ≤ i → false ≡ worn_among R hs n
-    unfolding worn_among
-    worn_none l = rw (inv, from_none i n l)
-
-    module _ (l : i < n) (t : Bool) (et : t ≡ not (fresh_slot R hs i)) where
-      pub worn_here : t ≡ true → true ≡ worn_among R hs n
-      unfolding worn_among both
-      worn_here p = let f = not-true (fresh_slot R hs i) (sym et ∙ p) in rw (inv, from_step i n l, f)
-
-      pub worn_on : t ≡ false → fresh_from R hs 0 n ≡ fresh_from R hs (i + 1) (n - (i + 1))
-      unfolding both
-      worn_on p = let f = not-false (fresh_slot R hs i) (sym et ∙ p) in rw (inv, from_step i n l, f)
+pub worn_any : (R hs : List ℕ) (n : ℕ) (t : Bool) → t ≡ list_any (λ i. not (fresh_slot R hs i)) (range_with_len 0 n) → t ≡ worn_among R hs n
+unfolding worn_among fresh_from
+worn_any R hs n t e = e ∙ ap (list_any (λ i. not (fresh_slot R hs i))) (numbers_same 0 n) ∙ any_not_all (fresh_slot R hs) (range 0 n)

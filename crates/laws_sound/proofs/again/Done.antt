@@ -18,6 +18,7 @@ use Rattle.meaning.specs.Resize.{lowest}
 use Rattle.meaning.specs.Calls.{done, slots_in, sized, usable, create_call, create_in, create_on}
 use Rattle.meaning.specs.Calls.{delete_call, delete_in, delete_on, refuse_full}
 use Rattle.meaning.specs.Walk.{pool_check}
+use Rattle.meaning.specs.declared.Reason.TheVariants.{NoRoom}
 use Rattle.laws_resize.proofs.resizing.SlotCounts.{times}
 use Rattle.laws_sound.proofs.sound.TimesListed.{by_slot, by_times, Each, each_none, each_more}
 use Rattle.laws.proofs.Every.{Every}
@@ -140,7 +141,7 @@ create_done e p S {s} {cs} h =
     let o = opened_done e P R _ h in
     let l = sized_lengths e P R o.0.sized in
     let (bs, seen, w, k) = after_check_done (pool_check e N P R) _ o.1 in
-    let f = refuse_if_done (ltb (length (usable e N P R)) 1) 11 _ k in
+    let f = refuse_if_done (ltb (length (usable e N P R)) 1) NoRoom _ k in
     let i = done_same f.1 in
     let free = usable e N P R in
     let u = usable_each e N P R (lowest free) (lowest_in free (ltb-false (length free) 1 f.0)) in

@@ -20,6 +20,8 @@ use Rattle.meaning.specs.Walk.{Found, fault, fine, from_root, blob_check, pool_c
 use Rattle.meaning.specs.Change.{Change}
 use Rattle.meaning.specs.Calls.{Outcome, refused, done, refuse_if, after_check, slots_in, sized, refuse_bad_record, opened, with_blob, rooted, changing}
 use Rattle.meaning.specs.Calls.{refuse_worn}
+use Rattle.meaning.specs.declared.Reason.{Reason}
+use Rattle.meaning.specs.declared.Reason.TheVariants.{WrongLengths, NotARoot, WornOut}
 use Rattle.laws.proofs.Inversions.{by_test, both_true}
 use Rattle.laws_resize.proofs.resizing.SlotCounts.{times, times_append}
 use Rattle.laws_sound.proofs.sound.TimesListed.{range_has, Each, each_none, each_more, marked, no_flag}
@@ -38,7 +40,7 @@ pub done_same : {A : Type 0} {a b : A} {x y : List Change} → done a x ≡ done
 done_same h = (cc, cc)
 
 -- behind a refusal that is not made
-pub refuse_if_done : {A : Type 0} (t : Bool) (n : ℕ) (o : Outcome A) {a : A} {cs : List Change} → refuse_if t n o ≡ done a cs
+pub refuse_if_done : {A : Type 0} (t : Bool) (n : Reason) (o : Outcome A) {a : A} {cs : List Change} → refuse_if t n o ≡ done a cs
     → (t ≡ false) × (o ≡ done a cs)
 unfolding refuse_if
 refuse_if_done true n o h = refused_done h
@@ -99,7 +101,7 @@ pub opened_done : {A : Type 0} (e : Edition) (P R : List ℕ) (o : Outcome A) {a
     → Opens e P R × (o ≡ done a cs)
 unfolding opened
 opened_done e P R o h =
-    let k = refuse_if_done (not (sized e P R)) 1 _ h in
+    let k = refuse_if_done (not (sized e P R)) WrongLengths _ h in
     let r = records_done R (range 0 (slots_in e P)) o k.1 in
     (record { sized = not-false (sized e P R) k.0; sound = λ s low. r.1 s (range_has 0 (slots_in e P) s (omega arith) (omega arith)) }, r.0)
 
@@ -186,7 +188,7 @@ pub changing_done : {A : Type 0} (e : Edition) → Proper e → (N : ℕ) (P R :
     {a : A} {cs : List Change} → changing e N P R r k ≡ done a cs → Changing e N P R r k a cs
 unfolding changing rooted
 changing_done e p N P R whole r k {a} {cs} h =
-    let n = refuse_if_done (not (both (ltb r N) (eqb (state R r) 2))) 3 _ h in
+    let n = refuse_if_done (not (both (ltb r N) (eqb (state R r) 2))) NotARoot _ h in
     let t = both_true (ltb r N) (eqb (state R r) 2) (not-false (both (ltb r N) (eqb (state R r) 2)) n.0) in
     let (bs, seen, o, w) = after_check_done (pool_check e N P R) _ n.1 in
     let low : r < N = ltb-true r N t.0 in
@@ -199,7 +201,7 @@ pub worn_done : {A : Type 0} (e : Edition) (N : ℕ) (P R : List ℕ) (b : Blob)
     → refuse_worn e N P R b o ≡ done a cs → Each (λ s. recorded R s < last_version) (slots_of b) × (o ≡ done a cs)
 unfolding refuse_worn
 worn_done e N P R b o h =
-    let k = refuse_if_done (not (all (λ s. ltb (recorded R s) last_version) (slots_of b))) 12 o h in
+    let k = refuse_if_done (not (all (λ s. ltb (recorded R s) last_version) (slots_of b))) WornOut o h in
     (young (slots_of b) (not-false (all (λ s. ltb (recorded R s) last_version) (slots_of b)) k.0), k.1)
   where
     young : (l : List ℕ) → all (λ s. ltb (recorded R s) last_version) l ≡ true → Each (λ s. recorded R s < last_version) l

@@ -14,6 +14,8 @@ use Rattle.meaning.specs.Change.{Store, puts, changed_by}
 use Rattle.meaning.specs.Calls.{Outcome, refused, done, refuse_if, after_check, refuse_bad_record, opened, slots_in, sized, rooted, reading}
 use Rattle.meaning.specs.Calls.{refuse_past, after}
 use Rattle.meaning.specs.Calls.{length_call, length_in, length_on, read_call, read_in, read_on, show_call, show_in, show_on, audit_call, audit_in, audit_on}
+use Rattle.meaning.specs.declared.Reason.{Reason}
+use Rattle.meaning.specs.declared.Reason.TheVariants.{WrongLengths, NotARoot, OutOfRange}
 use Rattle.laws.proofs.Inversions.{by_test}
 
 -- an outcome that changes nothing
@@ -28,7 +30,7 @@ quiet_after e S (refused r) q = refl
 quiet_after e S (done a cs) q = rw q
 
 -- behind a refusal
-quiet_if : {A : Type 0} (t : Bool) (n : ℕ) (o : Outcome A) → Quiet o → Quiet (refuse_if t n o)
+quiet_if : {A : Type 0} (t : Bool) (n : Reason) (o : Outcome A) → Quiet o → Quiet (refuse_if t n o)
 unfolding Quiet refuse_if
 quiet_if true n o q = tt
 quiet_if false n o q = q
@@ -49,14 +51,14 @@ quiet_records R (s ∷ ss) o q = by_test (sound_record (record_at R s)) (λ t. r
 quiet_opened : {A : Type 0} (e : Edition) (P R : List ℕ) (o : Outcome A) → Quiet o → Quiet (opened e P R o)
 unfolding opened
 quiet_opened e P R o q =
-    quiet_if (not (sized e P R)) 1 (refuse_bad_record R (range 0 (slots_in e P)) o) (quiet_records R (range 0 (slots_in e P)) o q)
+    quiet_if (not (sized e P R)) WrongLengths (refuse_bad_record R (range 0 (slots_in e P)) o) (quiet_records R (range 0 (slots_in e P)) o q)
 
 -- behind refusal 3 and the blob check
 quiet_reading : {A : Type 0} (e : Edition) (N : ℕ) (P R : List ℕ) (r : ℕ) (k : Blob → Outcome A) → ((b : Blob) → Quiet (k b))
     → Quiet (reading e N P R r k)
 unfolding reading rooted
 quiet_reading e N P R r k q =
-    quiet_if (not (both (ltb r N) (eqb (state R r) 2))) 3 (after_check (blob_check e N P R r) k) (quiet_check (blob_check e N P R r) k q)
+    quiet_if (not (both (ltb r N) (eqb (state R r) 2))) NotARoot (after_check (blob_check e N P R r) k) (quiet_check (blob_check e N P R r) k q)
 
 module _ (e : Edition) (P R : List ℕ) where
   -- length
@@ -69,14 +71,14 @@ module _ (e : Edition) (P R : List ℕ) where
   unfolding read_call read_in read_on refuse_past
   read_quiet r offset size =
       quiet_opened e P R _ (quiet_reading e (slots_in e P) P R r (read_on e (slots_in e P) P R offset size)
-      (λ b. quiet_if (ltb (length_of b) (offset + size)) 10 (done (part offset size (content_of b)) []) (unfold Quiet in refl)))
+      (λ b. quiet_if (ltb (length_of b) (offset + size)) OutOfRange (done (part offset size (content_of b)) []) (unfold Quiet in refl)))
 
   -- show a leaf
   pub show_quiet : (r k : ℕ) → Quiet (show_call e P R r k)
   unfolding show_call show_in show_on
   show_quiet r k =
       quiet_opened e P R _ (quiet_reading e (slots_in e P) P R r (show_on e (slots_in e P) P R k)
-      (λ b. quiet_if (leb (length (leaves_of b)) k) 10 _ (unfold Quiet in refl)))
+      (λ b. quiet_if (leb (length (leaves_of b)) k) OutOfRange _ (unfold Quiet in refl)))
 
   -- audit
   pub audit_quiet : Quiet (audit_call e P R)

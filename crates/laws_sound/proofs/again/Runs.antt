@@ -18,7 +18,7 @@ use Rattle.meaning.specs.Walk.{fine, pool_check}
 use Rattle.meaning.specs.Change.{Store, changed_by}
 use Rattle.meaning.specs.Calls.{Outcome, refused, done, after_check, slots_in, sized, live, audit_call, audit_in, audit_on, after, after_wipe}
 use Rattle.meaning.specs.Calls.{create_call, write_call, resize_call, delete_call, length_call, read_call, show_call}
-use Rattle.meaning.specs.Answers.{Said, yields, refuses, create_answer, created_said, change_answer, changed_said}
+use Rattle.meaning.specs.Answers.{Said, yields, refuses, answer_of, value_said, done_said}
 use Rattle.meaning.specs.Run as run
 use Rattle.meaning.specs.Run.{Call, says, perform, moments, without, noted, book_from, book_of, blocks_of}
 use Rattle.laws.proofs.Inversions.{by_test}
@@ -176,15 +176,15 @@ module _ (e : Edition) (S : Store) (book : List (ℕ × ℕ)) (k : Booked e S bo
   module _ (p : Proper e) where
     -- create, by its outcome
     create_booked : (o : Outcome ℕ) → create_call e S.pool S.records ≡ o
-        → Booked e (after e S o) (noted run.create (created_said (create_answer o)) book)
-    unfolding after create_answer created_said noted
+        → Booked e (after e S o) (noted run.create (value_said (answer_of o)) book)
+    unfolding after answer_of value_said noted
     create_booked (refused r) h = k
     create_booked (done s cs) h = made_booked (changed_by e cs S) s (create_done e p S h)
 
     -- write
     write_booked : (r offset : ℕ) (d : List ℕ) (o : Outcome (Unit {0})) → write_call e S.pool S.records r offset d ≡ o
-        → Booked e (after e S o) (noted (run.write r offset d) (changed_said (change_answer o)) book)
-    unfolding after change_answer changed_said noted length_of
+        → Booked e (after e S o) (noted (run.write r offset d) (done_said (answer_of o)) book)
+    unfolding after answer_of done_said noted length_of
     write_booked r offset d (refused q) h = k
     write_booked r offset d (done v cs) h =
         let c = write_done e p S r offset d h in
@@ -192,8 +192,8 @@ module _ (e : Edition) (S : Store) (book : List (ℕ × ℕ)) (k : Booked e S bo
 
     -- resize
     resize_booked : (r len : ℕ) (o : Outcome (Unit {0})) → resize_call e S.pool S.records r len ≡ o
-        → Booked e (after e S o) (noted (run.resize r len) (changed_said (change_answer o)) book)
-    unfolding after change_answer changed_said noted length_of
+        → Booked e (after e S o) (noted (run.resize r len) (done_said (answer_of o)) book)
+    unfolding after answer_of done_said noted length_of
     resize_booked r len (refused q) h = k
     resize_booked r len (done v cs) h =
         let c = resize_done e p S r len h in
@@ -201,8 +201,8 @@ module _ (e : Edition) (S : Store) (book : List (ℕ × ℕ)) (k : Booked e S bo
 
     -- delete
     delete_booked : (r : ℕ) (o : Outcome (Unit {0})) → delete_call e S.pool S.records r ≡ o
-        → Booked e (after e S o) (noted (run.delete r) (changed_said (change_answer o)) book)
-    unfolding after change_answer changed_said noted
+        → Booked e (after e S o) (noted (run.delete r) (done_said (answer_of o)) book)
+    unfolding after answer_of done_said noted
     delete_booked r (refused q) h = k
     delete_booked r (done v cs) h = went_booked (changed_by e cs S) r (delete_done e p S r h)
 

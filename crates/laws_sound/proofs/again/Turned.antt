@@ -17,6 +17,7 @@ use Rattle.meaning.specs.Change.{Change, Store, changed_by}
 use Rattle.meaning.specs.Resize.{refilled, resized}
 use Rattle.meaning.specs.Calls.{done, slots_in, usable, write_call, write_in, write_on}
 use Rattle.meaning.specs.Calls.{resize_call, resize_in, resize_on, new_blocks, refuse_full, refuse_past}
+use Rattle.meaning.specs.declared.Reason.TheVariants.{OutOfRange, NoRoom}
 use Rattle.laws.proofs.Parts.{pasted_length}
 use Rattle.laws_resize.proofs.resizing.SlotCounts.{times, slots_for}
 use Rattle.laws_resize.proofs.resizing.Refilled.{refilled_root, refilled_content, refilled_shaped, refilled_slots}
@@ -115,7 +116,7 @@ write_done e p S r offset d {cs} h =
     let m = c.among in
     let b : Blob = m.blob in
     let w = worn_done e N P R b _ c.then in
-    let f = refuse_if_done (ltb (length_of b) (offset + length d)) 10 _ w.1 in
+    let f = refuse_if_done (ltb (length_of b) (offset + length d)) OutOfRange _ w.1 in
     let i = done_same f.1 in
     let fits : offset + length d ≤ length (content_of b) = ltb-false (length_of b) (offset + length d) f.0 in
     let bytes : List ℕ = pasted offset d (content_of b) in
@@ -174,7 +175,7 @@ resize_done e p S r len {cs} h =
     let m = c.among in
     let b : Blob = m.blob in
     let w = worn_done e N P R b _ c.then in
-    let f = refuse_if_done (ltb (length (usable e N P R)) (new_blocks e N P R len b)) 11 _ w.1 in
+    let f = refuse_if_done (ltb (length (usable e N P R)) (new_blocks e N P R len b)) NoRoom _ w.1 in
     let i = done_same f.1 in
     let lay = among_lies e N P R m.before m.after b m.was in
     let enough : new_blocks e N P R len b ≤ length (usable e N P R) = ltb-false (length (usable e N P R)) (new_blocks e N P R len b) f.0 in

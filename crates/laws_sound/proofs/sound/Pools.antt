@@ -1,5 +1,6 @@
 -- The pool check both ways. It passes exactly for a list of blobs that lie in the pool, one for each root record in rising order, no two of
 -- which share a slot, that reach every part, beside free slots of zeros.
+use Rattle.std.specs.Prelude.{Err, Ok}
 use mathlib.Core.Path.{◌≡◌, refl, ap, ◌∙◌, sym}
 use mathlib.Core.Bool.{Bool, true}
 use mathlib.Core.List.{List, [], ◌∷◌, ◌++◌, map, map-append}
@@ -8,8 +9,8 @@ use native.Mathlib.Omega.{arith}
 use borrow.Author.Tests.{eqb-true, eqb-false, eq-eqb}
 use lib.Dec.{eqb}
 use lib.ListN.{length, get_or, drop, replicate, length-replicate}
+use Rattle.meaning.specs.declared.Reason.TheVariants.{Reintroduced, WrongShape}
 use Rattle.meaning.specs.declared.Edition.{Edition}
-use Rattle.meaning.specs.declared.Checked.TheVariants.{Passed}
 use Rattle.meaning.specs.Lists.{pick, joined, range, filter, zeros}
 use Rattle.meaning.specs.Edition.{Proper}
 use Rattle.meaning.specs.Bytes.{block, state}
@@ -154,23 +155,23 @@ module _ (e : Edition) (N : ℕ) (P R : List ℕ) where
   Closed seen s = (state R s ≡ 0 → zeros (block e P s) ≡ true) × (state R s ≡ 1 → get_or seen s 0 ≡ 1)
 
   -- if it passed one slot
-  closed_one : (seen : List ℕ) (s : ℕ) → closing_check e N P R seen s ≡ Passed → Closed seen s
+  closed_one : (seen : List ℕ) (s : ℕ) → closing_check e N P R seen s ≡ Ok tt → Closed seen s
   unfolding closing_check pick
   closed_one seen s c =
-      let t = must_passed _ (at 9 s) _ c in
-      let u = must_passed _ (at 8 s) Passed t.1 in
+      let t = must_passed _ (at Reintroduced s) _ c in
+      let u = must_passed _ (at WrongShape s) (Ok tt) t.1 in
       (λ z. rw (eq-eqb (state R s) 0 z) at t.0, λ z. eqb-true (get_or seen s 0) 1 (rw (eq-eqb (state R s) 1 z) at u.0))
 
   -- it passes one slot
-  one_closed : (seen : List ℕ) (s : ℕ) → Closed seen s → closing_check e N P R seen s ≡ Passed
+  one_closed : (seen : List ℕ) (s : ℕ) → Closed seen s → closing_check e N P R seen s ≡ Ok tt
   unfolding closing_check pick
   one_closed seen s c =
-      passed_must _ (at 9 s) _ (by_test (eqb (state R s) 0) (λ t. rw t (c.0 (eqb-true (state R s) 0 t))) (λ t. rw t))
-      (passed_must _ (at 8 s) Passed
+      passed_must _ (at Reintroduced s) _ (by_test (eqb (state R s) 0) (λ t. rw t (c.0 (eqb-true (state R s) 0 t))) (λ t. rw t))
+      (passed_must _ (at WrongShape s) (Ok tt)
       (by_test (eqb (state R s) 1) (λ t. rw t (eq-eqb (get_or seen s 0) 1 (c.1 (eqb-true (state R s) 1 t)))) (λ t. rw t)) refl)
 
   -- if it passed, it did each slot
-  closed : (ss seen : List ℕ) → closing e N P R ss seen ≡ Passed → Each (Closed seen) ss
+  closed : (ss seen : List ℕ) → closing e N P R ss seen ≡ Ok tt → Each (Closed seen) ss
   unfolding closing
   closed [] seen c = each_none (Closed seen)
   closed (s ∷ ss) seen c =
@@ -178,7 +179,7 @@ module _ (e : Edition) (N : ℕ) (P R : List ℕ) where
       each_more (Closed seen) s ss (closed_one seen s t.0) (closed ss seen t.1)
 
   -- it passes if it does each slot
-  all_closed : (ss seen : List ℕ) → Each (Closed seen) ss → closing e N P R ss seen ≡ Passed
+  all_closed : (ss seen : List ℕ) → Each (Closed seen) ss → closing e N P R ss seen ≡ Ok tt
   unfolding closing
   all_closed [] seen c = refl
   all_closed (s ∷ ss) seen c =

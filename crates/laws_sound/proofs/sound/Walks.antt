@@ -1,6 +1,7 @@
 -- The walk both ways. A walk that goes well found a tree whose cells lie at their slots: each reads as the cell, each below the first is a
 -- part, no slot was come to twice, and the flags are those of the tree's slots. The other way round, a tree that has its shape and whose
 -- cells lie so is walked well and found as it is. Block by block and row by row, as the walk goes.
+use Rattle.std.specs.Prelude.{Err, Ok}
 use mathlib.Core.Path.{◌≡◌, refl, ap, ap₂, ◌∙◌, sym}
 use mathlib.Core.Bool.{Bool, true, false}
 use mathlib.Core.List.{List, [], ◌∷◌, ◌++◌, map}
@@ -10,7 +11,6 @@ use lib.ListN.{length, get_or, drop, set, length-map, length-set}
 use Rattle.meaning.specs.declared.Edition.{Edition}
 use Rattle.meaning.specs.declared.Role.{Role}
 use Rattle.meaning.specs.declared.Role.TheVariants.{Child}
-use Rattle.meaning.specs.declared.Checked.TheVariants.{Passed}
 use Rattle.meaning.specs.Lists.{both, joined}
 use Rattle.meaning.specs.Edition.{Proper}
 use Rattle.meaning.specs.Bytes.{Cell, block, children_of, state, recorded}
@@ -55,7 +55,7 @@ module _ (e : Edition) (N : ℕ) (P R : List ℕ) where
 
   -- what a visit finds of a tree that lies in the pool
   unfoldable pub Finds : ℕ → Type 0
-  Finds h = (role : Role) (edge : Bool) (seen : List ℕ) (t : Tree h) → link_check N R seen role (slot_of h t) ≡ Passed
+  Finds h = (role : Role) (edge : Bool) (seen : List ℕ) (t : Tree h) → link_check N R seen role (slot_of h t) ≡ Ok tt
       → ShapedTree e h (is_root role) edge t → Every (Reads e N P R) (cells h t) → Parts R (drop 1 (slots h t)) → Clear seen (slots h t)
       → visit e N P R h role edge seen (slot_of h t) ≡ fine t (marked seen (slots h t))
 

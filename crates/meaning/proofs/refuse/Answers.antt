@@ -1,4 +1,4 @@
--- `meaning::refuse` meets its contract: a refusal is its number and the named slot.
+-- `meaning::refuse` meets its contract: a refusal is its reason and the named slot.
 use mathlib.Core.Path.{refl}
 use Rattle.meaning.specs.Refusals.{refusal_of}
 use Rattle.meaning.proofs.refuse.Goals as goal

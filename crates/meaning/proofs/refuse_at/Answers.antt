@@ -1,4 +1,4 @@
--- A refusal made of the number and the slot.
+-- A refusal made of the reason and the slot.
 use Rattle.meaning.specs.Refusals.{at}
 use borrow.Author.Rules.{rules}
 use Rattle.meaning.proofs.refuse_at.Goals as goal

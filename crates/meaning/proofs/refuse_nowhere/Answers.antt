@@ -1,4 +1,4 @@
--- A refusal made of the number and no slot.
+-- A refusal made of the reason and no slot.
 use Rattle.meaning.specs.Refusals.{nowhere}
 use borrow.Author.Rules.{rules}
 use Rattle.meaning.proofs.refuse_nowhere.Goals as goal

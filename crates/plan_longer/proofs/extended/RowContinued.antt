@@ -24,15 +24,6 @@ use Rattle.plan_slot.proofs.payload.Cells.{drawn_inner, drawn_leaf, children_cou
 pub copied_long : (m : ℕ) (x₀ x new : List ℕ) → length x₀ ≡ m → x ≡ padded (length x₀) new → length x ≡ m
 copied_long m x₀ x new long is = ap length is ∙ padded_length (length x₀) new ∙ long
 
--- the new children beside old ones, with the numbers that code has
-pub many_beside : (fan m c h n r k : ℕ) → r ≡ room fan h n → k ≡ places fan m c h r → k ≡ places fan m c h (room fan h n)
-many_beside fan m c h n r k there many = cc
-
-pub put_beside : (fan h n at s c k : ℕ) (free x₀ x : List ℕ) → s ≡ bulk fan h → k ≡ space fan h n
-    → x ≡ pasted (4 * at) (joined (map (bytes 4) (every free s c k))) x₀
-    → x ≡ pasted (4 * at) (joined (map (bytes 4) (every free (bulk fan h) c (space fan h n)))) x₀
-put_beside fan h n at s c k free x₀ x step there is = cc
-
 module _ (e : Edition) (p : Proper e) where
   -- an old leaf, filled with zeros
   pub grown_leaf : (long first : ℕ) (b x₀ x : List ℕ) (r count : ℕ) → length x₀ ≡ e.leaf → length b ≡ e.size → count_of b ≤ share e long first
@@ -47,23 +38,24 @@ module _ (e : Edition) (p : Proper e) where
       ∙ sym (padded_twice e.leaf (share e long first) [] (part 16 (count_of b) b) (omega arith) (omega arith)))
 
   -- an old inner block, with new children behind its own
-  pub grown_inner : (len n m : ℕ) (free b x₀ x₁ x : List ℕ) (h count c : ℕ) → length x₀ ≡ e.leaf → length b ≡ e.size → count_of b ≤ e.fan
+  pub grown_inner : (len n m : ℕ) (free b x₀ x₁ x : List ℕ) (h count c r k : ℕ) → length x₀ ≡ e.leaf → length b ≡ e.size → count_of b ≤ e.fan
       → m ≡ leaves_for e.leaf len - n → count ≡ count_of b → x₁ ≡ padded (length x₀) (part 16 (4 * count) b) → OfBytes b
-      → c ≡ places e.fan m (e.fan - count) h (room e.fan h n) → c ≤ e.fan - count
-      → x ≡ pasted (4 * count) (joined (map (bytes 4) (every free (bulk e.fan h) c (space e.fan h n)))) x₁
+      → r ≡ room e.fan h n → k ≡ space e.fan h n → c ≡ places e.fan m (e.fan - count) h r → c ≤ e.fan - count
+      → x ≡ pasted (4 * count) (joined (map (bytes 4) (every free (bulk e.fan h) c k))) x₁
       → Draws e (record { height = suc h; items = grown_row e len n free (suc h) 0 (children_of b) }) (record { height = h + 1; count = count + c }) x
   unfolding grown_row new_row new_leaves
-  grown_inner len n m free b x₀ x₁ x h count c long whole full more is old small many fits drawn =
+  grown_inner len n m free b x₀ x₁ x h count c r k long whole full more is old small there from many fits drawn =
       let new = every free (bulk e.fan h) c (space e.fan h n) in
-      let k : length (children_of b) ≡ count = children_count b (omega (arith, p.fits, p.fills)) ∙ sym is in
+      let own : length (children_of b) ≡ count = children_count b (omega (arith, p.fits, p.fills)) ∙ sym is in
       let q : length new ≡ c = every_length free (bulk e.fan h) c (space e.fan h n) in
       let row : c ≡ places e.fan (leaves_for e.leaf len - n) (e.fan - length (children_of b)) h (room e.fan h n) = cc in
       let front : x₁ ≡ padded e.leaf (joined (map (bytes 4) (children_of b))) =
       old ∙ ap₂ (λ (i : ℕ) (j : ℕ). padded i (part 16 (4 * j) b)) long is
       ∙ ap (padded e.leaf) (sym (payload_inner b small (omega (arith, p.fits, p.fills)))) in
       rw (← row)
-      (drawn_inner e p h (count + c) (children_of b ++ new) x (ap₂ ◌+◌ (sym k) (sym q) ∙ sym (length-append (children_of b) new)) (omega arith)
-      (drawn ∙ ap₂ (λ (i : ℕ) (l : List ℕ). pasted (4 * i) (joined (map (bytes 4) new)) l) (sym k) front
+      (drawn_inner e p h (count + c) (children_of b ++ new) x (ap₂ ◌+◌ (sym own) (sym q) ∙ sym (length-append (children_of b) new)) (omega arith)
+      (drawn ∙ ap (λ (i : ℕ). pasted (4 * count) (joined (map (bytes 4) (every free (bulk e.fan h) c i))) x₁) from
+      ∙ ap₂ (λ (i : ℕ) (l : List ℕ). pasted (4 * i) (joined (map (bytes 4) new)) l) (sym own) front
       ∙ slots_more e.leaf (children_of b) new (omega (arith, p.fills))))
 
   -- the two, by height

@@ -44,16 +44,17 @@ module _ (e : Edition) (p : Proper e) where
       (clear ∙ ap (λ (i : ℕ). replicate {A = ℕ} i 0) long ∙ sym (padded_zeros e.leaf (share e len (n + j)) (omega arith)))
 
   -- a new inner block
-  pub fresh_inner : (f : ℕ → ℕ) (m : ℕ) (free x₀ x₁ x : List ℕ) (h j k c s : ℕ) → length x₀ ≡ e.leaf → x₁ ≡ replicate (length x₀) 0
-      → c ≡ places e.fan m e.fan h j → c ≤ e.fan → s ≡ bulk e.fan h
-      → x ≡ pasted (4 * 0) (joined (map (bytes 4) (every free s c (k + 1)))) x₁
+  pub fresh_inner : (f : ℕ → ℕ) (m : ℕ) (free x₀ x₁ x : List ℕ) (h j k c : ℕ) → length x₀ ≡ e.leaf → x₁ ≡ replicate (length x₀) 0
+      → c ≡ places e.fan m (e.fan - 0) h j → c ≤ e.fan - 0
+      → x ≡ pasted (4 * 0) (joined (map (bytes 4) (every free (bulk e.fan h) c (k + 1)))) x₁
       → Draws e (fresh_cell e.fan m f free (suc h) j k) (record { height = h + 1; count = c }) x
   unfolding fresh_cell new_row
-  fresh_inner f m free x₀ x₁ x h j k c s long clear many fits step is =
+  fresh_inner f m free x₀ x₁ x h j k c long clear many fits is =
+      let s = bulk e.fan h in
+      let all : e.fan - 0 ≡ e.fan = omega arith in
       let n : length (every free s c (k + 1)) ≡ c = every_length free s c (k + 1) in
-      let row : every free s c (k + 1) ≡ every free (bulk e.fan h) (places e.fan m e.fan h j) (suc k) =
-      rw (step, many, add-one k) refl in
-      drawn_inner e p h c (every free (bulk e.fan h) (places e.fan m e.fan h j) (suc k)) x (sym n ∙ ap length row) fits
+      let row : every free s c (k + 1) ≡ every free s (places e.fan m e.fan h j) (suc k) = rw (many, all, add-one k) refl in
+      drawn_inner e p h c (every free (bulk e.fan h) (places e.fan m e.fan h j) (suc k)) x (sym n ∙ ap length row) (omega arith)
       (is ∙ ap (pasted (4 * 0) (joined (map (bytes 4) (every free s c (k + 1))))) (clear ∙ ap (λ (i : ℕ). replicate {A = ℕ} i 0) long)
       ∙ slots_first e.leaf 0 (every free s c (k + 1)) refl (omega (arith, p.fills))
       ∙ ap (λ (l : List ℕ). padded e.leaf (joined (map (bytes 4) l))) row)
@@ -65,16 +66,16 @@ module _ (e : Edition) (p : Proper e) where
   fresh_higher f m free x (suc h) j k d tall is = let z : suc h - 1 ≡ h = omega arith in rw z at is
 
   -- a root one higher
-  pub above_drawn : (f : ℕ → ℕ) (m : ℕ) (free x₀ x₁ x₂ x : List ℕ) (h j b c s : ℕ) → length x₀ ≡ e.leaf → x₁ ≡ replicate (length x₀) 0
+  pub above_drawn : (f : ℕ → ℕ) (m : ℕ) (free x₀ x₁ x₂ x : List ℕ) (h j b c : ℕ) → length x₀ ≡ e.leaf → x₁ ≡ replicate (length x₀) 0
       → x₂ ≡ pasted (4 * 0) (joined (map (bytes 4) (every free 0 1 b))) x₁
-      → c ≡ places e.fan m (e.fan - 1) h j → c ≤ e.fan - 1 → s ≡ bulk e.fan h
-      → x ≡ pasted (4 * 1) (joined (map (bytes 4) (every free s c (b + 1)))) x₂
+      → c ≡ places e.fan m (e.fan - 1) h j → c ≤ e.fan - 1
+      → x ≡ pasted (4 * 1) (joined (map (bytes 4) (every free (bulk e.fan h) c (b + 1)))) x₂
       → Draws e (above e.fan m f free h j b) (record { height = h + 1; count = c + 1 }) x
   unfolding above new_row every
-  above_drawn f m free x₀ x₁ x₂ x h j b c s long clear one many fits step is =
+  above_drawn f m free x₀ x₁ x₂ x h j b c long clear one many fits is =
+      let s = bulk e.fan h in
       let n : length (every free s c (b + 1)) ≡ c = every_length free s c (b + 1) in
-      let row : every free s c (b + 1) ≡ every free (bulk e.fan h) (places e.fan m (e.fan - 1) h j) (suc b) =
-      rw (step, many, add-one b) refl in
+      let row : every free s c (b + 1) ≡ every free s (places e.fan m (e.fan - 1) h j) (suc b) = rw (many, add-one b) refl in
       let first : x₂ ≡ padded e.leaf (joined (map (bytes 4) (get_or free b past ∷ []))) =
       one ∙ ap (pasted (4 * 0) (joined (map (bytes 4) (get_or free b past ∷ [])))) (clear ∙ ap (λ (i : ℕ). replicate {A = ℕ} i 0) long)
       ∙ slots_first e.leaf 0 (get_or free b past ∷ []) refl (omega (arith, p.fills, p.two)) in

@@ -13,22 +13,17 @@ returns-then-i-root c =
       rises = root_can_rise _ _ _ _ _ _ _ _ _ _ _ _ _ c.if-i-root.true c.plan_root.ensures c.requires.here;
     }
 
-pub plan_free-requires : goal.plan_free-requires
-plan_free-requires c = record { proper = search rules; grows = search rules; towers = search rules; root_block = search rules; payload_len = search rules }
-
-pub returns-then-heights-i-eq0 : goal.returns-then-heights-i-eq0
-returns-then-heights-i-eq0 c =
+pub returns-in-None : goal.returns-in-None
+returns-in-None c =
     record {
-      payload_after = free_planned _ _ _ _ _ _ _ _ _ _ _ _ _ _ c.if-i-root.false c.if-heights-i-eq0.true c.plan_free.ensures.payload_after;
+      payload_after = free_planned _ _ _ _ _ _ _ _ _ _ _ _ _ _ c.if-i-root.false c.in-None.ensures c.plan_free.ensures.payload_after;
       rises = c.plan_free.ensures.rises;
     }
 
-pub plan_old-requires : goal.plan_old-requires
-plan_old-requires c = record { proper = search rules; grows = search rules; spot = search rules; payload_len = search rules }
-
-pub returns : goal.returns
-returns c =
+pub returns-in-Some : goal.returns-in-Some
+returns-in-Some c =
+    let noted = c.in-Some.ensures in
     record {
-      payload_after = old_planned _ _ _ _ _ _ _ _ _ _ _ _ _ _ c.if-i-root.false c.if-heights-i-eq0.false c.plan_old.ensures;
-      rises = old_can_rise _ _ _ _ _ _ _ _ _ _ _ c.if-heights-i-eq0.false c.plan_old.ensures c.requires.here;
+      payload_after = old_planned _ _ _ _ _ _ _ _ _ _ _ _ _ _ c.if-i-root.false noted.0 c.plan_old.ensures;
+      rises = old_can_rise _ _ _ _ _ _ _ _ _ _ _ noted.0 c.plan_old.ensures c.requires.here;
     }

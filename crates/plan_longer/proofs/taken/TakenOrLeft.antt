@@ -36,7 +36,7 @@ module _ (e : Edition) (g : Growth) (t : Tower) (R free kept : List ℕ) (below 
     -- taken
     pub new_planned : Proper e → below < t.taken → not a ≡ false → (d : Drawn) (x : List ℕ)
         → Draws e (grown_new e g.length g.leaves free (t.top - t.height) t.height (items_of t.height kept) below) d x
-        → turned e R i (Takes d.height d.count) x ≡ free_plan e g t R free kept below i
+        → turned e R i (Takes d) x ≡ free_plan e g t R free kept below i
     unfolding free_plan new_end pick both
     new_planned p l q d x draws = taken_turned e p _ d x draws R i ∙ rw (← ea, not-false a q, lt-ltb below t.taken l)
 
@@ -45,7 +45,7 @@ pub stays_rises : (v : ℕ) → Rises Stays v
 unfolding Rises
 stays_rises v = tt
 
-pub new_can_rise : (R : List ℕ) (i : ℕ) (a : Bool) → a ≡ usable_slot R i → not a ≡ false → (h c : ℕ) → Rises (Takes h c) (recorded R i)
+pub new_can_rise : (R : List ℕ) (i : ℕ) (a : Bool) → a ≡ usable_slot R i → not a ≡ false → (d : Drawn) → Rises (Takes d) (recorded R i)
 unfolding Rises usable_slot
-new_can_rise R i a ea q h c =
+new_can_rise R i a ea q d =
     ltb-true (recorded R i) last_version (both_true (eqb (state R i) 0) (ltb (recorded R i) last_version) (sym ea ∙ not-false a q)).1

@@ -1,7 +1,7 @@
 -- A payload as the code makes it: a block's first payload bytes over zeros, and how many bytes a leaf holds.
 use mathlib.Core.Path.{◌≡◌, ap, ◌∙◌}
 use mathlib.Core.List.{List}
-use Prim.Native.Nat.{ℕ, ◌+◌, ◌-◌, ◌*◌, ◌^◌, ◌≤◌, ◌<◌}
+use Prim.Native.Nat.{ℕ, ◌+◌, ◌-◌, ◌*◌, ◌^◌, ◌≤◌, ◌<◌, min}
 use native.Mathlib.Nat.{mul-le-mul_left}
 use native.Mathlib.Omega.{arith}
 use lib.ListN.{length, take, drop, replicate, length-replicate}
@@ -29,17 +29,7 @@ copied_front n x₀ x₁ b ys fits long e₁ e =
 pub start_small : (e : Edition) → Proper e → (i : ℕ) → i ≤ 2 ^ 50 → e.leaf * i < 2 ^ 64
 start_small e p i h = omega (arith, p.byte, mul-le-mul_left e.leaf h)
 
--- past the length, a leaf holds nothing
-pub share_past : (e : Edition) (len i : ℕ) → len ≤ e.leaf * i → 0 ≡ share e len i
+-- a leaf holds what is left from its start on, and no more than it takes
+pub share_is : (e : Edition) (len i d r : ℕ) → d ≡ len - e.leaf * i → r ≡ min e.leaf d → r ≡ share e len i
 unfolding share
-share_past e len i h = omega arith
-
--- in the last leaf, what is left
-pub share_last : (e : Edition) (len i : ℕ) → e.leaf * i < len → len - e.leaf * i < e.leaf → len - e.leaf * i ≡ share e len i
-unfolding share
-share_last e len i h k = omega arith
-
--- else all that fits
-pub share_full : (e : Edition) (len i : ℕ) → e.leaf ≤ len - e.leaf * i → e.leaf ≡ share e len i
-unfolding share
-share_full e len i k = omega arith
+share_is e len i d r left least = omega arith

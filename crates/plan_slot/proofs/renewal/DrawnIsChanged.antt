@@ -22,19 +22,19 @@ use Rattle.plan_slot.specs.renewal.{renewal}
 
 -- what is stored of a drawn cell is the cell, one version up
 stored_drawn : (e : Edition) → Proper e → (c : Cell) (d : Drawn) (x : List ℕ) → Draws e c d x → (R : List ℕ) (st s : ℕ)
-    → stored e R st s d.height d.count x ≡ renewed e R st s c
+    → stored e R st s d x ≡ renewed e R st s c
 unfolding stored renewed
 stored_drawn e p c d x draws R st s = rw (draws_block e p c d x draws s (recorded R s + 1))
 
 module _ (e : Edition) (p : Proper e) (c : Cell) (d : Drawn) (x : List ℕ) (draws : Draws e c d x) where
   -- a slot newly taken
-  pub taken_turned : (R : List ℕ) (s : ℕ) → turned e R s (Takes d.height d.count) x ≡ renewed e R 1 s c ∷ []
+  pub taken_turned : (R : List ℕ) (s : ℕ) → turned e R s (Takes d) x ≡ renewed e R 1 s c ∷ []
   unfolding turned
   taken_turned R s = rw (stored_drawn e p c d x draws R 1 s)
 
   -- a slot that had the block b
   module _ (b : List ℕ) (t : Turn)
-      (et : t ≡ pick (both (eqb d.height (height_of b)) (eqb d.count (count_of b))) Stays (Renews d.height d.count)) where
+      (et : t ≡ pick (both (eqb d.height (height_of b)) (eqb d.count (count_of b))) Stays (Renews d)) where
     pub renewal_turned : (R : List ℕ) (s : ℕ) → turned e R s t x ≡ renewal e R s b c
     unfolding renewal turned pick
     renewal_turned R s =
@@ -42,7 +42,7 @@ module _ (e : Edition) (p : Proper e) (c : Cell) (d : Drawn) (x : List ℕ) (dra
         ∙ by (both (eqb d.height (height_of b)) (eqb d.count (count_of b)))
         ∙ rw (draws.height, draws.count)
       where
-        by : (q : Bool) → turned e R s (pick q Stays (Renews d.height d.count)) x ≡ pick q [] (renewed e R (state R s) s c ∷ [])
+        by : (q : Bool) → turned e R s (pick q Stays (Renews d)) x ≡ pick q [] (renewed e R (state R s) s c ∷ [])
         by true = refl
         by false = rw (stored_drawn e p c d x draws R (state R s) s)
 
@@ -51,7 +51,7 @@ module _ (e : Edition) (p : Proper e) (c : Cell) (d : Drawn) (x : List ℕ) (dra
     unfolding Rises pick
     renewal_rises v less = rw et (by (both (eqb d.height (height_of b)) (eqb d.count (count_of b))))
       where
-        by : (q : Bool) → Rises (pick q Stays (Renews d.height d.count)) v
+        by : (q : Bool) → Rises (pick q Stays (Renews d)) v
         by true = tt
         by false = less
 

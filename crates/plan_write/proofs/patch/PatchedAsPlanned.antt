@@ -1,19 +1,21 @@
 -- One slot of a write is stored, need by need: the next version, and that the stored stretch and version are the planned block and record.
 use mathlib.Core.Path.{◌≡◌, ap, ◌∙◌}
+use mathlib.Core.Bool.{true}
 use mathlib.Core.List.{List}
 use Prim.Native.Nat.{ℕ, ◌+◌, ◌*◌, ◌≤◌, ◌<◌}
 use native.Mathlib.Omega.{arith}
 use mir.Syntax.{w64}
 use mir.Val.{Fits}
-use borrow.Author.Tests.{eq-eqb, ne_eqb}
 use lib.ListN.{length}
 use Rattle.meaning.specs.declared.Edition.{Edition}
-use Rattle.meaning.specs.Lists.{pick, part, pasted, bytes}
+use Rattle.meaning.specs.Lists.{part, pasted, bytes}
 use Rattle.meaning.specs.Edition.{Proper}
-use Rattle.meaning.specs.Bytes.{block, count_of, data_of, encoded, record_at, record_of, record_with, state_of, recorded_of, state, recorded, last_version}
+use Rattle.meaning.specs.Bytes.{block, count_of, data_of, encoded, record_at, record_of, state_of, recorded_of, state, recorded, last_version}
 use Rattle.meaning.specs.Shape.{most_count}
 use Rattle.meaning.specs.Change.{put, puts, renewed}
 use Rattle.laws.proofs.Numbers.{part_length}
+use Rattle.laws.proofs.Inversions.{Sound}
+use Rattle.std.specs.Prelude.{None, Some}
 use Rattle.plan_write.specs.declared.stretch.Stretch.{Stretch}
 use Rattle.plan_write.specs.stretch.{plan_of, stretched, leaf_cell, put_by, write_plan, ChosenAt, Place, Counted, Writable}
 use Rattle.plan_write.proofs.patch.Blocks.{leaf_rewritten, leaf_encoded}
@@ -28,10 +30,10 @@ module _ (R : List ℕ) (i : ℕ) (rb : List ℕ) (er : rb ≡ record_at R i) wh
   unfolding recorded last_version
   version_fits v ev h = let q : v ≡ recorded_of (record_at R i) = ev ∙ ap recorded_of er in record { fits = omega arith }
 
-  pub record_raised : (st : ℕ) → st ≡ state_of rb → (v : ℕ) (line : List ℕ) → line ≡ record_with st 0 v → (R' : List ℕ) → R' ≡ put 12 i line R
+  pub record_raised : (st : ℕ) → st ≡ state_of rb → (v : ℕ) (R' : List ℕ) → R' ≡ put 12 i (record_of st v) R
       → R' ≡ put 12 i (record_of (state R i) v) R
-  unfolding state record_of
-  record_raised st es v line el R' e' = e' ∙ rw (el, es, er)
+  unfolding state
+  record_raised st es v R' e' = e' ∙ rw (es, er)
 
 -- both are stored
 pub pool_stored : (e : Edition) (i within from count : ℕ) (d P R : List ℕ) (v : ℕ) → v ≡ recorded R i + 1 → (P' : List ℕ)
@@ -53,31 +55,30 @@ unfolding data_of
 data_long b h = part_length 16 (count_of b) b h
 
 -- a slot is written, by its plan
-module _ (e : Edition) (P R hs fs d : List ℕ) (offset i : ℕ) (t : Stretch) (et : t ≡ plan_of e P hs fs d offset i) where
-  plan_is : write_plan e P R hs fs d offset i ≡ put_by e P R d i t
-  unfolding write_plan
-  plan_is = rw et
-
+module _ (e : Edition) (P R hs fs d : List ℕ) (offset i : ℕ) where
   -- nothing changes
-  pub pool_stays : t.count ≡ 0 → P ≡ puts e.size (λ c. c.block) (write_plan e P R hs fs d offset i) P
-  unfolding put_by pick puts
-  pool_stays z = rw (plan_is, eq-eqb t.count 0 z)
+  pub pool_stays : None ≡ plan_of e P hs fs d offset i → P ≡ puts e.size (λ c. c.block) (write_plan e P R hs fs d offset i) P
+  unfolding write_plan put_by puts
+  pool_stays et = rw (← et)
 
-  pub records_stay : t.count ≡ 0 → R ≡ puts 12 (λ c. c.line) (write_plan e P R hs fs d offset i) R
-  unfolding put_by pick puts
-  records_stay z = rw (plan_is, eq-eqb t.count 0 z)
+  pub records_stay : None ≡ plan_of e P hs fs d offset i → R ≡ puts 12 (λ c. c.line) (write_plan e P R hs fs d offset i) R
+  unfolding write_plan put_by puts
+  records_stay et = rw (← et)
 
   -- its stretch is stored
-  module _ (n : t.count ≡ 0 → ⊥) (f : ChosenAt e P hs d i t) (g : Writable e P R hs i) where
+  module _ (t : Stretch) (et : Some t ≡ plan_of e P hs fs d offset i) (f : ChosenAt e P hs d i t) (g : Writable e P R hs i) where
+    sound : Sound e 0 true true (recorded R i) i (block e P i)
+    sound = (g.so f.leaf).sound
+
     pub store_room : Proper e → 16 + t.within + t.count ≤ e.size
     unfolding most_count
-    store_room p = omega (arith, (f.so n).1.leaf, (g.so (f.so n).0).sound.most, p.fits)
+    store_room p = omega (arith, f.changing.leaf, sound.most, p.fits)
 
     pub store_source : t.from + t.count ≤ length d
-    store_source = (f.so n).1.source
+    store_source = f.changing.source
 
     pub store_young : recorded R i < last_version
-    store_young = (g.so (f.so n).0).young
+    store_young = (g.so f.leaf).young
 
     -- the stored block is the planned one
     block_planned : Proper e → e.size ≡ 16 + e.leaf → e.size * i + e.size ≤ length P
@@ -86,8 +87,7 @@ module _ (e : Edition) (P R hs fs d : List ℕ) (offset i : ℕ) (t : Stretch) (
     unfolding stretched most_count
     block_planned p fills here =
         let b : List ℕ = block e P i in
-        let c = (f.so n).1 in
-        let sound = (g.so (f.so n).0).sound in
+        let c = f.changing in
         let lb : length b ≡ e.size = block_long e P i here in
         let row : length (data_of b) ≡ count_of b = data_long b (omega (arith, sound.most)) in
         let new : length (part t.from t.count d) ≡ t.count = part_length t.from t.count d c.source in
@@ -99,14 +99,14 @@ module _ (e : Edition) (P R hs fs d : List ℕ) (offset i : ℕ) (t : Stretch) (
     pub pool_put : Proper e → e.size ≡ 16 + e.leaf → Place e P hs fs i → (P' : List ℕ)
         → P' ≡ put e.size i (pasted (16 + t.within) (part t.from t.count d) (pasted 8 (bytes 8 (recorded R i + 1)) (block e P i))) P
         → P' ≡ puts e.size (λ c. c.block) (write_plan e P R hs fs d offset i) P
-    unfolding put_by pick puts renewed
+    unfolding write_plan put_by puts renewed
     pool_put p fills place P' e' =
-        e' ∙ ap (λ (x : List ℕ). put e.size i x P) (block_planned p fills place.block) ∙ rw (plan_is, ne_eqb t.count 0 n)
+        e' ∙ ap (λ (x : List ℕ). put e.size i x P) (block_planned p fills place.block) ∙ rw (← et)
 
     pub records_put : (R' : List ℕ) → R' ≡ put 12 i (record_of (state R i) (recorded R i + 1)) R
         → R' ≡ puts 12 (λ c. c.line) (write_plan e P R hs fs d offset i) R
-    unfolding put_by pick puts renewed
-    records_put R' e' = e' ∙ rw (plan_is, ne_eqb t.count 0 n)
+    unfolding write_plan put_by puts renewed
+    records_put R' e' = e' ∙ rw (← et)
 
 -- a leaf holds no more than a payload
 pub leaf_count_lem : (e : Edition) (P R hs : List ℕ) (i : ℕ) → Writable e P R hs i → Counted e P hs i

@@ -1,6 +1,5 @@
 -- The plan of a leaf is the version rule of the definition: it changes exactly if its cell, with its stretch put, differs.
 use mathlib.Core.Path.{◌≡◌, refl, ap, ◌∙◌}
-use mathlib.Core.Bool.{true, false}
 use mathlib.Core.List.{List, [], ◌∷◌}
 use Prim.Native.Nat.{ℕ, ◌+◌, ◌*◌, ◌≤◌}
 use native.Mathlib.Omega.{arith}
@@ -66,11 +65,6 @@ module _ (e : Edition) (P R hs fs d : List ℕ) (offset s : ℕ) (leaf : get_or 
   unfolding touched_by
   inside n = fits_both (e.leaf * get_or fs s 0) (count_of b) offset (length d) n
 
-  -- no bytes differ, or some do
-  put_some : same_list (part (16 + t.within) t.count b) (part t.from t.count d) ≡ false → t.count ≡ 0 → ⊥
-  unfolding part same_list
-  put_some q z = absurd (let w : true ≡ false = rw z at q in let y : ◌≡◌ {A = ℕ} 0 1 = cc in omega arith)
-
   pub planned_leaf : write_plan e P R hs fs d offset s
       ≡ pick (same_cell (leaf_cell (data_of b)) (leaf_cell (stretched t d (data_of b)))) []
       (renewed e R (state R s) s (leaf_cell (stretched t d (data_of b))) ∷ [])
@@ -78,7 +72,7 @@ module _ (e : Edition) (P R hs fs d : List ℕ) (offset s : ℕ) (leaf : get_or 
   planned_leaf =
       by_test (same_list (part (16 + t.within) t.count b) (part t.from t.count d))
       (λ q. rw (same_stretch b d room t inside, eq-eqb (get_or hs s 0) 1 leaf, q))
-      (λ q. rw (same_stretch b d room t inside, eq-eqb (get_or hs s 0) 1 leaf, q, ne_eqb t.count 0 (put_some q)))
+      (λ q. rw (same_stretch b d room t inside, eq-eqb (get_or hs s 0) 1 leaf, q))
 
 -- a slot that is no leaf of the blob stays
 pub planned_other : (e : Edition) (P R hs fs d : List ℕ) (offset s : ℕ) → (get_or hs s 0 ≡ 1 → ⊥) → write_plan e P R hs fs d offset s ≡ []

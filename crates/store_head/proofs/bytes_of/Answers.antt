@@ -1,9 +1,7 @@
--- What opening answered, by its two cases.
-use Rattle.store_head.proofs.Handing.{bytes_there, bytes_none}
+-- What opening answered, or no byte.
+use mathlib.Core.Path.{◌∙◌}
+use Rattle.store_head.proofs.Handing.{bytes_or_none}
 use Rattle.store_head.proofs.bytes_of.Goals as goal
 
-pub returns-in-Is : goal.returns-in-Is
-returns-in-Is c = search bytes_there
-
-pub returns-in-Refused : goal.returns-in-Refused
-returns-in-Refused c = search bytes_none
+pub returns : goal.returns
+returns c = c.unwrap_or.ensures ∙ bytes_or_none c.args.answer

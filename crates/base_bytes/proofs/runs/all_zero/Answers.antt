@@ -1,32 +1,21 @@
-use mathlib.Core.Path.{refl}
-use native.Mathlib.Omega.{arith}
-use Rattle.laws.proofs.Parts.{zeros_end, zeros_stop, zeros_more}
-use Rattle.base_bytes.proofs.runs.Zeros.{eight_stop, eight_more}
+-- The eights decide, and then the bytes after them.
+use mathlib.Core.Path.{◌∙◌}
+use Prim.Native.Nat.{ℕ}
+use Rattle.std.proofs.Common.{rules, tests}
+use Rattle.std.proofs.lemmas.Iterator.{YieldsList-from_slice}
+use Rattle.std.proofs.lemmas.Iterator.Search.{all_from_yields_List}
+use Rattle.std.specs.Prelude.{◌==◌}
+use Rattle.meaning.specs.Lists.{zeros}
+use Rattle.base_bytes.proofs.runs.Zeros.{eights_stop, eights_passed}
 use Rattle.base_bytes.proofs.runs.all_zero.Goals as goal
 
-pub loop-i-init : goal.loop-i-init
-loop-i-init c = refl
+pub returns-else-all : goal.returns-else-all
+returns-else-all c =
+    let k = all_from_yields_List zeros _ _ c.all.result c.all.ensures.ran (YieldsList-from_slice _ (c.iter.ensures.rest ∙ c.as_chunks.ensures.front)) (λ x b q k. search (rules, tests)) in
+    eights_stop c.args.s.now c.all.result k c.if-all.false
 
-pub u64_at-requires : goal.u64_at-requires
-u64_at-requires c = omega arith
-
-pub returns-then-u64_at-ne0 : goal.returns-then-u64_at-ne0
-returns-then-u64_at-ne0 c = search eight_stop
-
-pub loop-i-smaller-then-s-i-ge8 : goal.loop-i-smaller-then-s-i-ge8
-loop-i-smaller-then-s-i-ge8 c = omega arith
-
-pub loop-i-preserved-then-s-i-ge8 : goal.loop-i-preserved-then-s-i-ge8
-loop-i-preserved-then-s-i-ge8 c = search eight_more
-
-pub returns-then-s-i-ne0 : goal.returns-then-s-i-ne0
-returns-then-s-i-ne0 c = search zeros_stop
-
-pub loop-i-smaller : goal.loop-i-smaller
-loop-i-smaller c = omega arith
-
-pub loop-i-preserved : goal.loop-i-preserved
-loop-i-preserved c = search zeros_more
-
-pub returns : goal.returns
-returns c = search zeros_end
+pub returns-then-all : goal.returns-then-all
+returns-then-all c =
+    let k = all_from_yields_List zeros _ _ c.all.result c.all.ensures.ran (YieldsList-from_slice _ (c.iter.ensures.rest ∙ c.as_chunks.ensures.front)) (λ x b q k. search (rules, tests)) in
+    let j = all_from_yields_List (λ (b : ℕ). b == 0) _ _ c.all-then-all.result c.all-then-all.ensures.ran (YieldsList-from_slice _ (c.iter-then-all.ensures.rest ∙ c.as_chunks.ensures.back)) (λ x b q k. search (rules, tests)) in
+    eights_passed c.args.s.now c.all.result k c.if-all.true _ j

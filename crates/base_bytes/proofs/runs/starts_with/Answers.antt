@@ -1,9 +1,7 @@
--- The first byte decides, or else the second does.
-use Rattle.laws.proofs.Parts.{starts_not, starts_so}
+-- The library's test of the front.
+use mathlib.Core.Path.{◌∙◌}
+use Rattle.base_bytes.proofs.runs.FirstBytes.{starts_is}
 use Rattle.base_bytes.proofs.runs.starts_with.Goals as goal
 
-pub returns-then-s-x : goal.returns-then-s-x
-returns-then-s-x c = search starts_not
-
 pub returns : goal.returns
-returns c = search starts_so
+returns c = c.starts_with.ensures.value ∙ starts_is c.args.s.now c.args.x c.args.y

@@ -1,16 +1,16 @@
--- `base_shape::sheet::total_of` meets its contract: n leaves have the row n - 1.
-use mathlib.Core.Path.{◌≡◌, ap, ◌∙◌}
-use Prim.Native.Nat.{ℕ, ◌+◌, ◌-◌, ◌≤◌}
+-- `base_shape::sheet::total_of` meets its contract: the sheet as it stands in the code is the list of the totals of 1 to 937, which the checker computes, and so
+-- row n - 1 is that of n leaves.
+use mathlib.Core.Path.{◌≡◌, refl, ap, ◌∙◌}
+use Prim.Native.Nat.{◌+◌, ◌-◌}
 use native.Mathlib.Omega.{arith}
-use Rattle.meaning.specs.Shape.{total}
+use Rattle.meaning.specs.Lists.{pick, range}
+use Rattle.meaning.specs.Shape.{up, total_within, total}
+use Rattle.base_shape.proofs.sheet.SettledOnce.{row_right}
 use Rattle.base_shape.proofs.sheet.total_of.Goals as goal
 
--- row n - 1 is that of n leaves
-own_row : (n r : ℕ) → 1 ≤ n → r ≡ total 12 (n - 1 + 1) → r ≡ total 12 n
-own_row n r some row = row ∙ ap (total 12) (omega arith)
-
-pub returns-then-n-le64 : goal.returns-then-n-le64
-returns-then-n-le64 c = search own_row
-
 pub returns : goal.returns
-returns c = search own_row
+unfolding range total total_within up pick
+returns c =
+    let n = c.args.n in
+    let e : n - 1 + 1 ≡ n = omega arith in
+    row_right (total 12) 937 refl (n - 1) (omega arith) ∙ ap (total 12) e

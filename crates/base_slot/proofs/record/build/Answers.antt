@@ -5,4 +5,4 @@ use Rattle.base_slot.proofs.record.build.Goals as goal
 
 pub returns : goal.returns
 unfolding pasted bytes record_with
-returns c = c.put_u64.ensures
+returns c = c.put.ensures

@@ -6,7 +6,4 @@ use Rattle.base_slot.specs.usable.{usable_from}
 use Rattle.base_slot.proofs.usable.count.Given as goal
 
 abbrev pub invariant-loop-i : goal.invariant-loop-i
-invariant-loop-i l = (length (usable_from l.records 0 l.n) ≡ l.found + length (usable_from l.records l.i (l.n - l.i))) × (l.found ≤ l.i) × (l.i ≤ l.n)
-
-abbrev pub decreases-loop-i : goal.decreases-loop-i
-decreases-loop-i l = l.n - l.i
+invariant-loop-i l = (length (usable_from l.records 0 l.n) ≡ l.found + length (usable_from l.records l.i (l.n - l.i))) × (l.found ≤ l.i)

@@ -1,24 +1,14 @@
 use native.Mathlib.Omega.{arith}
 use Rattle.plan_slot.proofs.change.SlotLoop.{turning_start, pool_turned, records_turned}
-use Rattle.call_reshape.proofs.longer_slots.TurnsAsPlanned.{below_start, here_now, line_now, grow_turn, below_turn}
+use Rattle.call_reshape.proofs.longer_slots.TurnsAsPlanned.{below_start, here_now, grow_turn, below_turn}
 use borrow.Author.Rules.{rules}
 use Rattle.call_reshape.proofs.longer_slots.grow_all.Goals as goal
 
 pub loop-i-init : goal.loop-i-init
-loop-i-init c = (search turning_start, search below_start, search rules, search rules, search rules)
+loop-i-init c = (search turning_start, search below_start, search rules)
 
-pub is_usable-requires : goal.is_usable-requires
-is_usable-requires c = search line_now
-
-pub grow_slot-requires : goal.grow_slot-requires
-grow_slot-requires c = record {
-  proper = search rules;
-  grows = search rules;
-  towers = search rules;
-  root_block = search rules;
-  here = search here_now;
-  payload_len = (search rules, search rules);
-}
+pub grow_slot-requires-clause-here : goal.grow_slot-requires-clause-here
+grow_slot-requires-clause-here c = search here_now
 
 pub loop-i-preserved : goal.loop-i-preserved
 loop-i-preserved c =
@@ -27,8 +17,6 @@ loop-i-preserved c =
           c.grow_slot.ensures.pool_after c.grow_slot.ensures.records_after,
       below_turn _ _ _ _ _ _ _ _ _ _ _ _ _ _ inv.0 _ inv.1 _ c.is_usable.ensures _ c.one_if-more.ensures.0,
       omega (arith, inv.2, c.one_if-more.ensures.1),
-      search rules,
-      search rules,
     )
 
 pub returns : goal.returns

@@ -1,19 +1,12 @@
-use borrow.Author.Rules.{rules}
 use Rattle.plan_slot.proofs.change.SlotLoop.{turning_start, pool_turned, records_turned}
-use Rattle.call_write.proofs.put.WrittenSoFar.{turn_record, turn_place, turn_writable, write_turn}
+use Rattle.call_write.proofs.put.WrittenSoFar.{turn_writable, write_turn}
 use Rattle.call_write.proofs.put.write_all.Goals as goal
 
 pub loop-i-init : goal.loop-i-init
 loop-i-init c = search turning_start
 
-pub write_slot-requires : goal.write_slot-requires
-write_slot-requires c = record {
-  proper = search rules;
-  size_value = search rules;
-  place = search turn_place;
-  i_in_bounds = search turn_record;
-  writable = search turn_writable;
-}
+pub write_slot-requires-clause-writable : goal.write_slot-requires-clause-writable
+write_slot-requires-clause-writable c = search turn_writable
 
 pub loop-i-preserved : goal.loop-i-preserved
 loop-i-preserved c = search write_turn

@@ -1,8 +1,8 @@
--- Height falls from block to row, and children left in the row's loop: the measure is twice the height for a block, and twice the height of
+-- Height falls from block to row: the measure is twice the height for a block, and twice the height of
 -- its blocks and one more for a row. The loop's invariant: the whole row comes to what the children left come to, with what was noted so far.
 use mathlib.Core.Path.{◌≡◌}
-use Prim.Native.Nat.{◌+◌, ◌*◌}
-use lib.ListN.{length, drop}
+use Prim.Native.Nat.{◌+◌, ◌-◌, ◌*◌}
+use lib.ListN.{drop}
 use Rattle.meaning.specs.Lists.{fours}
 use Rattle.meaning.specs.Bytes.{block}
 use Rattle.check_blob.specs.notes.{notes, RowStart}
@@ -14,11 +14,8 @@ decreases-visit_block l = 2 * l.h
 abbrev pub decreases-visit_row : goal.decreases-visit_row
 decreases-visit_row l = 2 * l.w + 1
 
-abbrev pub invariant-visit_row-loop-left : goal.invariant-visit_row-loop-left
-invariant-visit_row-loop-left l =
+abbrev pub invariant-visit_row-loop-from : goal.invariant-visit_row-loop-from
+invariant-visit_row-loop-from l =
     (notes l.e l.n l.pool l.records l.w l.parent l.edge (fours l.count (drop 16 (block l.e l.pool l.parent))) l.initial.seen l.bytes l.leaves l.initial.row
-    ≡ notes l.e l.n l.pool l.records l.w l.parent l.edge (fours l.left (drop (16 + 4 * l.from) (block l.e l.pool l.parent))) l.seen l.b l.k l.row)
-    × RowStart l.e l.n l.pool l.records l.seen l.parent l.from l.left l.b l.k × (length l.seen ≡ length l.initial.seen) × (length l.row ≡ length l.initial.row)
-
-abbrev pub decreases-visit_row-loop-left : goal.decreases-visit_row-loop-left
-decreases-visit_row-loop-left l = l.left
+    ≡ notes l.e l.n l.pool l.records l.w l.parent l.edge (fours (l.count - l.from) (drop (16 + 4 * l.from) (block l.e l.pool l.parent))) l.seen l.b l.k l.row)
+    × RowStart l.e l.n l.pool l.records l.seen l.parent l.from (l.count - l.from) l.b l.k

@@ -1,8 +1,5 @@
-use Rattle.check_pool.proofs.closing.ClosingBySteps.{closing_start, closing_end, closing_stop, closing_on}
+use Rattle.check_pool.proofs.closing.ClosingBySteps.{closing_end, closing_stop, closing_on}
 use Rattle.check_pool.proofs.closing.close.Goals as goal
-
-pub loop-i-init : goal.loop-i-init
-loop-i-init c = search closing_start
 
 pub returns-in_default : goal.returns-in_default
 returns-in_default c = search closing_stop

@@ -7,6 +7,3 @@ use Rattle.check_pool.proofs.closing.close.Given as goal
 
 abbrev pub invariant-loop-i : goal.invariant-loop-i
 invariant-loop-i l = closing l.e l.n l.pool l.records (range 0 l.n) l.seen ≡ closing l.e l.n l.pool l.records (range l.i (l.n - l.i)) l.seen
-
-abbrev pub decreases-loop-i : goal.decreases-loop-i
-decreases-loop-i l = l.n - l.i

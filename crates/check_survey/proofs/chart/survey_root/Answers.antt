@@ -18,7 +18,7 @@ pub note_sites-requires : goal.note_sites-requires
 note_sites-requires c =
     record {
       proper = c.requires.proper;
-      sites_start = rooted_sites _ _ _ _ _ _ c.is_root.ensures (ap not c.if-not-is_root.false) _ _ _ _ c.check-walked.ensures _ _ c.in-Fine.is c.requires.proper _ _ _ c.requires.room;
+      sites_start = rooted_sites _ _ _ _ _ _ c.is_root.ensures (ap not c.if-not-is_root.false) _ _ _ _ c.check-walked.ensures _ _ c.in-Ok.is c.requires.proper _ _ _ c.requires.room;
     }
 
 pub returns : goal.returns

@@ -1,12 +1,8 @@
--- An inner block, another height, the count: each way out is one law.
-use Rattle.plan_longer.proofs.enlarged.OldBlocksPlanned.{settled_inner, settled_height, settled_count}
+-- The count decides. The check finds this alone; it stands here so that a comparison changed in the code fails as a goal that is not met.
+use borrow.Author.Rules.{rules}
+use Rattle.meaning.specs.Lists.{both}
 use Rattle.plan_longer.proofs.enlarged.is_settled.Goals as goal
 
-pub returns-then-h-ne0 : goal.returns-then-h-ne0
-returns-then-h-ne0 c = search settled_inner
-
-pub returns-then-height_of-ne0 : goal.returns-then-height_of-ne0
-returns-then-height_of-ne0 c = search settled_height
-
-pub returns : goal.returns
-returns c = search settled_count
+pub returns-then-height_of-eq0 : goal.returns-then-height_of-eq0
+unfolding both
+returns-then-height_of-eq0 c = search rules

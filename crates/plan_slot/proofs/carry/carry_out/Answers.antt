@@ -6,14 +6,14 @@ use Rattle.plan_slot.proofs.carry.carry_out.Goals as goal
 
 pub overflow_add-version : goal.overflow_add-version
 overflow_add-version c =
-    takes_fits _ _ _ c.record_of-line.ensures.0 _ _ c.version_of-version.ensures c.requires.rises _ _ c.in-Takes.is
+    takes_fits _ _ _ c.record_of-line.ensures.0 _ _ c.version_of-version.ensures c.requires.rises _ c.in-Takes.is
 
 pub put_cell-requires : goal.put_cell-requires
 put_cell-requires c = record { proper = search rules; places = search rules; slot_bound = (search rules, search rules) }
 
 pub overflow_add-version-in-Renews : goal.overflow_add-version-in-Renews
 overflow_add-version-in-Renews c =
-    renews_fits _ _ _ c.record_of-line.ensures.0 _ _ c.version_of-version.ensures c.requires.rises _ _ c.in-Renews.is
+    renews_fits _ _ _ c.record_of-line.ensures.0 _ _ c.version_of-version.ensures c.requires.rises _ c.in-Renews.is
 
 pub put_cell-requires-in-Renews : goal.put_cell-requires-in-Renews
 put_cell-requires-in-Renews c = record { proper = search rules; places = search rules; slot_bound = (search rules, search rules) }
@@ -32,14 +32,14 @@ pub returns-in-Takes : goal.returns-in-Takes
 returns-in-Takes c =
     let its = c.record_of-line.ensures.0 in
     let same = c.version_of-version.ensures in record {
-      pool_after = takes_pool _ _ _ _ _ _ its _ same _ _ c.in-Takes.is _ _ c.put_cell.ensures.pool_after;
-      records_after = takes_records _ _ _ _ _ _ its _ same _ _ c.in-Takes.is _ c.put_cell.ensures.records_after;
+      pool_after = takes_pool _ _ _ _ _ _ its _ same _ c.in-Takes.is _ _ c.put_cell.ensures.pool_after;
+      records_after = takes_records _ _ _ _ _ _ its _ same _ c.in-Takes.is _ c.put_cell.ensures.records_after;
     }
 
 pub returns-in-Renews : goal.returns-in-Renews
 returns-in-Renews c =
     let its = c.record_of-line.ensures.0 in
     let same = c.version_of-version.ensures in record {
-      pool_after = renews_pool _ _ _ _ _ _ its _ same _ _ c.in-Renews.is _ _ c.put_cell-in-Renews.ensures.pool_after;
-      records_after = renews_records _ _ _ _ _ _ its _ same _ c.state_of-state.ensures _ _ c.in-Renews.is _ c.put_cell-in-Renews.ensures.records_after;
+      pool_after = renews_pool _ _ _ _ _ _ its _ same _ c.in-Renews.is _ _ c.put_cell-in-Renews.ensures.pool_after;
+      records_after = renews_records _ _ _ _ _ _ its _ same _ c.state_of-state.ensures _ c.in-Renews.is _ c.put_cell-in-Renews.ensures.records_after;
     }

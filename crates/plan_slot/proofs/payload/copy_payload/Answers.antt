@@ -4,6 +4,4 @@ use native.Mathlib.Omega.{arith}
 use Rattle.plan_slot.proofs.payload.copy_payload.Goals as goal
 
 pub returns : goal.returns
-returns c =
-    let byte = c.shared_slice_known-1.given in
-    record { payload_after = search copied_front; of_bytes = record { small = λ i. omega (arith, byte i) } }
+returns c = record { payload_after = search copied_front; of_bytes = record { small = λ i. omega (arith, c.type_inv.block i) } }

@@ -1,12 +1,9 @@
--- Height, then count.
-use Rattle.plan_slot.proofs.turn.TurnByCases.{height_differs, count_differs, none_differs}
+-- Height and count at once.
+use Rattle.plan_slot.proofs.turn.TurnByCases.{same_stays, other_renews}
 use Rattle.plan_slot.proofs.turn.renewed.Goals as goal
 
-pub returns-then-height-height_of : goal.returns-then-height-height_of
-returns-then-height-height_of c = search height_differs
+pub returns-then-eq : goal.returns-then-eq
+returns-then-eq c = search same_stays
 
-pub returns-then-count-count_of : goal.returns-then-count-count_of
-returns-then-count-count_of c = search count_differs
-
-pub returns : goal.returns
-returns c = search none_differs
+pub returns-else-eq : goal.returns-else-eq
+returns-else-eq c = search other_renews

@@ -1,52 +1,24 @@
-use mathlib.Core.Path.{◌≡◌, refl, ap, ◌∙◌}
-use Prim.Native.Nat.{ℕ, ◌+◌}
+-- `plan_tree::edge::room` meets its contract: what adds up are the leaves of full subtrees, whose number is not 0.
+use Prim.Native.Nat.{◌^◌}
 use native.Mathlib.Omega.{arith}
-use Rattle.laws_resize.specs.growth.Forms.{room}
-use Rattle.plan_tree.proofs.subtrees.SubtreesFromBelow.{pow_rises}
-use Rattle.plan_tree.proofs.edge.EdgeFromBelow.{room_none, room_next, room_few}
+use borrow.Author.Rules.{rules}
+use Rattle.plan_tree.proofs.subtrees.SubtreesFromBelow.{pow_rises, pow_some}
+use Rattle.plan_tree.proofs.edge.EdgeFromBelow.{room_is, room_fits}
 use Rattle.plan_tree.proofs.edge.room.Goals as goal
 
-pub loop-i-init : goal.loop-i-init
-loop-i-init c =
+pub lacking-requires : goal.lacking-requires
+lacking-requires c =
     let x = c.args in
-    (room_none x.fan 0 x.n refl, omega arith)
-
-pub last_children-requires : goal.last_children-requires
-last_children-requires c =
-    let x = c.args in
-    let l = c.loop-i in
-    omega (arith, pow_rises x.fan l.i x.h (omega arith) (omega arith))
-
-pub power-requires : goal.power-requires
-power-requires c =
-    let x = c.args in
-    let l = c.loop-i in
-    omega (arith, pow_rises x.fan l.i x.h (omega arith) (omega arith))
-
-pub overflow_mul-r : goal.overflow_mul-r
-overflow_mul-r c =
-    let x = c.args in
-    let l = c.loop-i in
-    let is = room_next x.fan l.i x.n l.r _ _ l.invariant.0 c.last_children.ensures.0 c.power.ensures in
-    omega (arith, room_few x.fan (l.i + 1) x.h x.n _ (omega arith) (omega arith) is)
-
-pub overflow_add-r : goal.overflow_add-r
-overflow_add-r c =
-    let x = c.args in
-    let l = c.loop-i in
-    let is = room_next x.fan l.i x.n l.r _ _ l.invariant.0 c.last_children.ensures.0 c.power.ensures in
-    omega (arith, room_few x.fan (l.i + 1) x.h x.n _ (omega arith) (omega arith) is)
-
-pub loop-i-preserved : goal.loop-i-preserved
-loop-i-preserved c =
-    let x = c.args in
-    let l = c.loop-i in
-    (room_next x.fan l.i x.n l.r _ _ l.invariant.0 c.last_children.ensures.0 c.power.ensures, omega arith)
+    record {
+      fan_bound = search rules;
+      sized = record {
+        may = λ i low. grind (arith, pow_rises);
+        few = λ i r low is. grind (arith, pow_some);
+      };
+    }
 
 pub returns : goal.returns
 returns c =
     let x = c.args in
-    let l = c.loop-i in
-    let all : l.i ≡ x.h = omega arith in
-    let whole = l.invariant.0 ∙ ap (λ (g : ℕ). room x.fan g x.n) all in
-    (whole, room_few x.fan x.h x.h x.n _ (omega arith) (omega arith) whole)
+    let sum = c.lacking.ensures.sum (λ i. x.fan ^ i) (λ i r low is. is) in
+    omega (arith, sum, room_is x.fan x.h x.n, room_fits x.fan x.h x.n (omega arith))

@@ -1,52 +1,24 @@
-use mathlib.Core.Path.{◌≡◌, refl, ap, ◌∙◌}
-use Prim.Native.Nat.{ℕ, ◌+◌}
+-- `plan_tree::edge::space` meets its contract: what adds up are the blocks of full subtrees, fewer than twice the leaves.
 use native.Mathlib.Omega.{arith}
-use Rattle.laws_resize.specs.growth.Forms.{space}
-use Rattle.plan_tree.proofs.subtrees.SubtreesFromBelow.{pow_rises}
-use Rattle.plan_tree.proofs.edge.EdgeFromBelow.{space_none, space_next, space_few}
+use borrow.Author.Rules.{rules}
+use Rattle.laws_resize.specs.growth.Forms.{bulk}
+use Rattle.plan_tree.proofs.subtrees.SubtreesFromBelow.{pow_rises, bulk_twice}
+use Rattle.plan_tree.proofs.edge.EdgeFromBelow.{space_is}
 use Rattle.plan_tree.proofs.edge.space.Goals as goal
 
-pub loop-i-init : goal.loop-i-init
-loop-i-init c =
+pub lacking-requires : goal.lacking-requires
+lacking-requires c =
     let x = c.args in
-    (space_none x.fan 0 x.n refl, omega arith)
-
-pub last_children-requires : goal.last_children-requires
-last_children-requires c =
-    let x = c.args in
-    let l = c.loop-i in
-    omega (arith, pow_rises x.fan l.i x.h (omega arith) (omega arith))
-
-pub bulk-requires : goal.bulk-requires
-bulk-requires c =
-    let x = c.args in
-    let l = c.loop-i in
-    omega (arith, pow_rises x.fan l.i x.h (omega arith) (omega arith))
-
-pub overflow_mul-r : goal.overflow_mul-r
-overflow_mul-r c =
-    let x = c.args in
-    let l = c.loop-i in
-    let is = space_next x.fan l.i x.n l.r _ _ l.invariant.0 c.last_children.ensures.0 c.bulk.ensures.0 in
-    omega (arith, space_few x.fan (l.i + 1) x.h x.n _ (omega arith) (omega arith) (omega arith) is)
-
-pub overflow_add-r : goal.overflow_add-r
-overflow_add-r c =
-    let x = c.args in
-    let l = c.loop-i in
-    let is = space_next x.fan l.i x.n l.r _ _ l.invariant.0 c.last_children.ensures.0 c.bulk.ensures.0 in
-    omega (arith, space_few x.fan (l.i + 1) x.h x.n _ (omega arith) (omega arith) (omega arith) is)
-
-pub loop-i-preserved : goal.loop-i-preserved
-loop-i-preserved c =
-    let x = c.args in
-    let l = c.loop-i in
-    (space_next x.fan l.i x.n l.r _ _ l.invariant.0 c.last_children.ensures.0 c.bulk.ensures.0, omega arith)
+    record {
+      fan_bound = search rules;
+      sized = record {
+        may = λ i low. grind (arith, pow_rises);
+        few = λ i r low is. grind (arith, bulk_twice);
+      };
+    }
 
 pub returns : goal.returns
 returns c =
     let x = c.args in
-    let l = c.loop-i in
-    let all : l.i ≡ x.h = omega arith in
-    let whole = l.invariant.0 ∙ ap (λ (g : ℕ). space x.fan g x.n) all in
-    (whole, space_few x.fan x.h x.h x.n _ (omega arith) (omega arith) (omega arith) whole)
+    let sum = c.lacking.ensures.sum (bulk x.fan) (λ i r low is. is.0) in
+    omega (arith, sum, space_is x.fan x.h x.n, c.lacking.ensures.few)

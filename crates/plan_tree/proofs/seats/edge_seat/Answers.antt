@@ -1,7 +1,8 @@
 use mathlib.Core.Path.{refl}
 use Prim.Native.Nat.{◌-◌}
 use native.Mathlib.Omega.{arith}
-use Rattle.plan_tree.proofs.subtrees.SubtreesFromBelow.{pow_rises}
+use borrow.Author.Rules.{rules}
+use Rattle.plan_tree.proofs.subtrees.SubtreesFromBelow.{pow_rises, pow_small}
 use Rattle.plan_tree.proofs.seats.SeatsFromBelow.{edge_none, edge_below, edge_beside}
 use Rattle.plan_tree.proofs.seats.edge_seat.Goals as goal
 
@@ -9,22 +10,13 @@ pub loop-height-init : goal.loop-height-init
 loop-height-init c = (refl, omega arith)
 
 pub space-below-requires : goal.space-below-requires
-space-below-requires c =
-    let x = c.args in
-    let low = pow_rises x.fan (c.loop-height.height - 1) x.h (omega arith) (omega arith) in
-    omega arith
+space-below-requires c = search (rules, pow_small)
 
 pub room-requires : goal.room-requires
-room-requires c =
-    let x = c.args in
-    let low = pow_rises x.fan (c.loop-height.height - 1) x.h (omega arith) (omega arith) in
-    omega arith
+room-requires c = search (rules, pow_small)
 
 pub in_row-requires : goal.in_row-requires
-in_row-requires c =
-    let x = c.args in
-    let low = pow_rises x.fan (c.loop-height.height - 1) x.h (omega arith) (omega arith) in
-    omega arith
+in_row-requires c = search (rules, pow_small)
 
 pub returns-then-below-p : goal.returns-then-below-p
 returns-then-below-p c =
@@ -36,9 +28,6 @@ returns-then-below-p c =
     let here = c.room.ensures.0 in
     let sits = c.in_row.ensures.sits in
     record { sits = edge_beside x.fan x.h x.n x.p l.height _ _ _ l.invariant.0 tall all (omega arith) here sits; first_bound = omega arith }
-
-pub loop-height-smaller : goal.loop-height-smaller
-loop-height-smaller c = omega arith
 
 pub loop-height-preserved : goal.loop-height-preserved
 loop-height-preserved c = (search edge_below, omega arith)

@@ -7,6 +7,3 @@ use Rattle.plan_tree.proofs.seats.edge_seat.Given as goal
 
 abbrev pub invariant-loop-height : goal.invariant-loop-height
 invariant-loop-height l = (seat l.fan l.h l.n l.p ≡ seat l.fan l.height l.n l.p) × (l.height ≤ l.h)
-
-abbrev pub decreases-loop-height : goal.decreases-loop-height
-decreases-loop-height l = l.height

@@ -1,7 +1,7 @@
-use Prim.Native.Nat.{◌-◌}
 use native.Mathlib.Omega.{arith}
-use Rattle.plan_tree.proofs.subtrees.SubtreesFromBelow.{pow_rises, bulk_some}
-use Rattle.plan_tree.proofs.seats.SeatsFromBelow.{nears_start, nears_down, share_fits, sits_leaf, sits_top}
+use borrow.Author.Rules.{rules}
+use Rattle.plan_tree.proofs.subtrees.SubtreesFromBelow.{pow_small, bulk_some}
+use Rattle.plan_tree.proofs.seats.SeatsFromBelow.{nears_start, nears_down, share_of_left, sits_leaf, sits_top}
 use Rattle.plan_tree.proofs.seats.locate.Goals as goal
 
 pub loop-height-init : goal.loop-height-init
@@ -13,43 +13,22 @@ returns-then-left-eq0 c =
     record { sits = search sits_top; first_le_p = omega (arith, n.low, n.few) }
 
 pub bulk-size-requires : goal.bulk-size-requires
-bulk-size-requires c =
-    let x = c.args in
-    omega (arith, pow_rises x.fan (c.loop-height.height - 1) x.h (omega arith) (omega arith))
+bulk-size-requires c = search (rules, pow_small)
 
 pub nonzero_div-first : goal.nonzero_div-first
-nonzero_div-first c =
-    let x = c.args in
-    omega (arith, bulk_some x.fan _ _ (omega arith) c.bulk-size.ensures.0)
+nonzero_div-first c = search (rules, bulk_some)
 
 pub power-requires : goal.power-requires
-power-requires c =
-    let x = c.args in
-    omega (arith, pow_rises x.fan (c.loop-height.height - 1) x.h (omega arith) (omega arith))
+power-requires c = search (rules, pow_small)
 
 pub overflow_mul-first : goal.overflow_mul-first
-overflow_mul-first c =
-    let n = c.loop-height.invariant in
-    let x = c.args in
-    let l = c.loop-height in
-    let share = share_fits x.fan (l.height - 1) (l.left - 1) _ _ 0 (omega arith) c.bulk-size.ensures.0 c.power.ensures (omega arith) in
-    omega (arith, n.few)
+overflow_mul-first c = grind (arith, share_of_left)
 
 pub overflow_add-first : goal.overflow_add-first
-overflow_add-first c =
-    let n = c.loop-height.invariant in
-    let x = c.args in
-    let l = c.loop-height in
-    let share = share_fits x.fan (l.height - 1) (l.left - 1) _ _ 0 (omega arith) c.bulk-size.ensures.0 c.power.ensures (omega arith) in
-    omega (arith, n.few)
+overflow_add-first c = grind (arith, share_of_left)
 
 pub nonzero_rem-left : goal.nonzero_rem-left
-nonzero_rem-left c =
-    let x = c.args in
-    omega (arith, bulk_some x.fan _ _ (omega arith) c.bulk-size.ensures.0)
-
-pub loop-height-smaller : goal.loop-height-smaller
-loop-height-smaller c = omega arith
+nonzero_rem-left c = search (rules, bulk_some)
 
 pub loop-height-preserved : goal.loop-height-preserved
 loop-height-preserved c = search nears_down

@@ -5,6 +5,3 @@ use Rattle.plan_tree.proofs.seats.locate.Given as goal
 
 abbrev pub invariant-loop-height : goal.invariant-loop-height
 invariant-loop-height l = Nears l.fan l.h l.p l.height l.left l.first
-
-abbrev pub decreases-loop-height : goal.decreases-loop-height
-decreases-loop-height l = l.height

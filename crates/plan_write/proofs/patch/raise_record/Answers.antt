@@ -1,4 +1,4 @@
--- The record's state is read, and the record built with it is stored.
+-- The state that was read is the state that is put.
 use Rattle.plan_write.proofs.patch.PatchedAsPlanned.{record_raised}
 use Rattle.plan_write.proofs.patch.raise_record.Goals as goal
 

@@ -1,10 +1,6 @@
 -- Wipe at edition one.
 use Rattle.rows_size.proofs.AtEditionOne.{one_here}
-use Rattle.store.proofs.Lengths.{wipe_one}
 use Rattle.store.proofs.changes.wipe.Goals as goal
 
 pub wipe_call-requires : goal.wipe_call-requires
 wipe_call-requires c = search one_here
-
-pub returns : goal.returns
-returns c = search wipe_one

@@ -1,13 +1,10 @@
 -- Refusal 1, or the leaf's place in rows that suffice.
-use Rattle.store.proofs.Lengths.{most_slots, few_slots, no_leaf, no_place}
-use borrow.Author.Rules.{rules}
+use Rattle.store.proofs.Lengths.{most_slots, no_leaf, no_place}
 use Rattle.store.proofs.reads.find_leaf.Goals as goal
+use Rattle.laws.proofs.HandedOn.{handed}
 
-pub returns-then-not-is_sized : goal.returns-then-not-is_sized
-returns-then-not-is_sized c = record { value = search no_leaf; lies = search no_place }
+pub returns-in_err-check_lengths : goal.returns-in_err-check_lengths
+returns-in_err-check_lengths c = record { value = rw (handed c.from_residual.ensures.1) (search (no_leaf, c.in_err-check_lengths.was)); lies = rw (handed c.from_residual.ensures.1) (search (no_place, c.in_err-check_lengths.was)) }
 
-pub in_128-requires : goal.in_128-requires
-in_128-requires c = search few_slots
-
-pub in_larger-requires : goal.in_larger-requires
-in_larger-requires c = (search rules, search most_slots)
+pub in_rows-requires : goal.in_rows-requires
+in_rows-requires c = search (most_slots, c.in_ok-check_lengths.was)

@@ -1,10 +1,10 @@
 -- Refusal 1, or the read in rows that suffice.
 use Rattle.store.proofs.Lengths.{most_slots, no_read}
-use borrow.Author.Rules.{rules}
 use Rattle.store.proofs.reads.read.Goals as goal
+use Rattle.laws.proofs.HandedOn.{handed}
 
-pub returns-then-not-is_sized : goal.returns-then-not-is_sized
-returns-then-not-is_sized c = search no_read
+pub returns-in_err-check_lengths : goal.returns-in_err-check_lengths
+returns-in_err-check_lengths c = rw (handed c.from_residual.ensures.1) (search (no_read, c.in_err-check_lengths.was))
 
-pub in_larger-requires : goal.in_larger-requires
-in_larger-requires c = (search rules, search most_slots)
+pub in_rows-requires : goal.in_rows-requires
+in_rows-requires c = search (most_slots, c.in_ok-check_lengths.was)

@@ -9,16 +9,16 @@ overflow_add-end c = search placed_fits
 pub slice_bounds-result-end : goal.slice_bounds-result-end
 slice_bounds-result-end c = search placed_within
 
-pub returns-in-At : goal.returns-in-At
-returns-in-At c = record {
+pub returns-in-Ok : goal.returns-in-Ok
+returns-in-Ok c = record {
   ref_ptr_value = (search rules, search shown_at_lem);
   result_value = search shown_part_lem;
   number_after = search shown_nothing_refused;
   slot_after = search shown_nowhere;
 }
 
-pub returns-in-Refused : goal.returns-in-Refused
-returns-in-Refused c = record {
+pub returns-in-Err : goal.returns-in-Err
+returns-in-Err c = record {
   ref_ptr_value = (search rules, search shown_at_start);
   result_value = search shown_empty;
   number_after = search shown_number_lem;

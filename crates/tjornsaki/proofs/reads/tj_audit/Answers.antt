@@ -1,6 +1,6 @@
 -- The store's answer as numbers.
-use Rattle.answers.proofs.NumbersOfCalls.{audit_numbers_lem}
+use Rattle.answers.proofs.NumbersOfCalls.{told_numbers_lem}
 use Rattle.tjornsaki.proofs.reads.tj_audit.Goals as goal
 
 pub returns : goal.returns
-returns c = search audit_numbers_lem
+returns c = search told_numbers_lem

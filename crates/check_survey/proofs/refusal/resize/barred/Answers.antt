@@ -1,5 +1,5 @@
 -- Refusal 12 first, then 11.
-use Rattle.check_survey.proofs.refusal.NumberByTests.{resize_worn, resize_full, resize_none}
+use Rattle.check_survey.proofs.refusal.BarredByTests.{resize_worn, resize_full, resize_none}
 use Rattle.check_survey.proofs.refusal.resize.barred.Goals as goal
 
 pub returns-then-is_worn : goal.returns-then-is_worn

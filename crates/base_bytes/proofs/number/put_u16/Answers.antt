@@ -1,6 +1,0 @@
--- The lent part came back as its two bytes of x, so they are pasted at `at`.
-use Rattle.laws.proofs.Parts.{number_back}
-use Rattle.base_bytes.proofs.number.put_u16.Goals as goal
-
-pub returns : goal.returns
-returns c = search number_back

@@ -1,5 +1,0 @@
-use Prim.Native.Nat.{◌-◌}
-use Rattle.rows_change.proofs.create.+in_larger.Given as goal
-
-abbrev pub decreases-in_larger : goal.decreases-in_larger
-decreases-in_larger l = 65536 - l.places

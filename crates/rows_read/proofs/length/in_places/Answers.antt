@@ -1,0 +1,6 @@
+-- Rows with a place for each slot are enough.
+use Rattle.rows_size.proofs.EnoughPlaces.{clear_row, long_row}
+use Rattle.rows_read.proofs.length.in_places.Goals as goal
+
+pub in_lent-requires : goal.in_lent-requires
+in_lent-requires g c = (search clear_row, search long_row)
