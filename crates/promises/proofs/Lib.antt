@@ -4,6 +4,7 @@ pub mod Faults
 pub mod Refused
 pub mod Stores
 pub mod RefusedExactly
+pub mod Numbers
 pub mod One
 pub mod Done
 pub mod Two

@@ -28,6 +28,7 @@ use Rattle.laws.proofs.Free.{free_record, free_length}
 use Rattle.laws.proofs.OneToOne.{value_said_same, done_said_same, leaf_said_same}
 use Rattle.laws_history.proofs.Started.{wipe_starts}
 use Rattle.laws_sound.proofs.again.Outcomes.{sized_lengths}
+use Rattle.promises.proofs.Numbers.{number_same}
 use Rattle.promises.proofs.Said.{said_by, one_number, no_number, all_bytes, leaf_shown, said_refused, refused_said}
 use Rattle.promises.proofs.Said.{says_create, says_audit, says_write, says_resize, says_delete, says_length, says_read, says_show}
 use Rattle.promises.proofs.Stores.{reads}
@@ -238,4 +239,5 @@ one e p = record {
   one_wipe = λ P R x y P' R' P'' R'' a b. (a.answer ∙ sym b.answer, a.pool ∙ sym b.pool, a.records ∙ sym b.records);
   one_read = λ o x y out out' out'' a b. (a.answer ∙ sym b.answer, a.output ∙ sym b.output);
   one_answer = (value_said_same, done_said_same, leaf_said_same);
+  numbers_differ = number_same;
 }

@@ -128,8 +128,9 @@ pub record DemandOne (e : Edition) : Type 1 where
       → Ends e say o P R x P' R' → Ends e say o P R y P'' R'' → (x ≡ y) × (P' ≡ P'') × (R' ≡ R'')
   pub one_wipe : (P R : List ℕ) (x y : Result (Unit {0}) Refusal) (P' R' P'' R'' : List ℕ) → Wipes e P R x P' R' → Wipes e P R y P'' R'' → (x ≡ y) × (P' ≡ P'') × (R' ≡ R'')
   pub one_read : (o : Outcome (List ℕ)) (x y : Result (Unit {0}) Refusal) (out out' out'' : List ℕ) → Reads o x out out' → Reads o y out out'' → (x ≡ y) × (out' ≡ out'')
-  -- and an answer is one of the paper's: no two answers have the same number and values
+  -- and an answer is one of the paper's: no two answers have the same reason and values, and no two reasons have the same number
   pub one_answer : OneToOne value_said × OneToOne done_said × OneToOne leaf_said
+  pub numbers_differ : (a b : Reason) → number_of a ≡ number_of b → a ≡ b
 
 -- DEMAND TWO. Each call gives exactly what document 01's definitions give: bytes, leaf and block counts, versions, slots taken and freed; a length
 -- has one shape only.
