@@ -34,6 +34,10 @@ module _ (a : List ℕ) where
     unfolding numbers value_said
     value_refused r e ea = rw e ea
 
+    -- create's answer: the new slot is the third number
+    pub created_at : (s : ℕ) → x ≡ Ok s → a ≡ value_numbers s 0 → a ≡ numbers (value_said x)
+    created_at = value_done
+
   module _ (x : Result (Unit {0}) Refusal) where
     pub done_done : x ≡ Ok tt → a ≡ value_numbers 0 0 → a ≡ numbers (done_said x)
     unfolding numbers done_said

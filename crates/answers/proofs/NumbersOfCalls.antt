@@ -15,6 +15,13 @@ module _ (a : List ℕ) where
   unfolding told_numbers
   told_numbers_lem o x e ea = ea ∙ ap (λ (y : Result ℕ Refusal). numbers (value_said y)) e
 
+  -- of length, and of audit
+  pub length_numbers_lem : (o : Outcome ℕ) (x : Result ℕ Refusal) → x ≡ answer_of o → a ≡ numbers (value_said x) → a ≡ told_numbers o
+  length_numbers_lem = told_numbers_lem
+
+  pub audit_numbers_lem : (o : Outcome ℕ) (x : Result ℕ Refusal) → x ≡ answer_of o → a ≡ numbers (value_said x) → a ≡ told_numbers o
+  audit_numbers_lem = told_numbers_lem
+
   pub leaf_numbers_lem : (e : Edition) (o : Outcome (ℕ × ℕ)) (x : Result (ℕ × ℕ) Refusal) → x ≡ leaf_answer e o → a ≡ numbers (leaf_said x) → a ≡ leaf_numbers e o
   unfolding leaf_numbers
   leaf_numbers_lem e o x ex ea = ea ∙ ap (λ (y : Result (ℕ × ℕ) Refusal). numbers (leaf_said y)) ex

@@ -57,6 +57,8 @@ module _ (R : List ℕ) (i : ℕ) (rb : List ℕ) (er : rb ≡ record_at R i) (s
   live_one n = simp (← state_is R i rb er st es, ne_eqb st 0 n)
 
 -- the count so far and that of the slots left are the whole
+pub live_start : (R : List ℕ) (n : ℕ) → 0 + live_from R 0 (n - 0) ≡ live_from R 0 n
+live_start R n = let z : n - 0 ≡ n = omega arith in rw z (omega arith)
 
 module _ (R : List ℕ) (n i live : ℕ) (inv : live + live_from R i (n - i) ≡ live_from R 0 n) where
   pub live_more : i < n → (m : ℕ) → m ≡ live_from R i 1 → live + m + live_from R (i + 1) (n - (i + 1)) ≡ live_from R 0 n

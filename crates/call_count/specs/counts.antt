@@ -7,6 +7,7 @@ use Rattle.plan_slot.specs.change.Turns.{over}
 pub record Counting {X : Type 0} (plan : X → ℕ → List Change) (n i count : ℕ) : Type 0 where
   pub all : (x : X) → length (over (plan x) 0 n) ≡ count + length (over (plan x) i (n - i))
   pub few : count ≤ i
+  pub within : i ≤ n
 
 -- a function may be asked of each of n slots, and answers one or none
 pub record Planned (n : ℕ) (pre : ℕ → Type 0) (post : (i k : ℕ) → Type 0) : Type 0 where

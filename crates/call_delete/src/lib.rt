@@ -28,8 +28,13 @@ pub fn delete_call(
     requires scratch_len { length scratch.old ≡ e.size }
     ensures { Ends e answer_of (delete_call e pool.old records.old root) pool.old records.old result pool.new records.new }
 {
-    let reached = check_survey::reach(e, pool, records, seen, row, heights, firsts, root)?;
-    let n = reached.slots;
-    free::clear_all(e, pool, records, &heights[0..n], scratch, n);
-    Ok(())
+    // Kept as a match: the edit refused_is_done changes what it answers of a refusal.
+    match check_survey::reach(e, pool, records, seen, row, heights, firsts, root) {
+        Err(r) => Err(r),
+        Ok(reached) => {
+            let n = reached.slots;
+            free::clear_all(e, pool, records, &heights[0..n], scratch, n);
+            Ok(())
+        }
+    }
 }

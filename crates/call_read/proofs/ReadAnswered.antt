@@ -1,11 +1,11 @@
 -- A read's answer: an equation for each way out.
 use Rattle.std.specs.Prelude.{Err, Ok, Result}
-use mathlib.Core.Path.{◌≡◌, ◌∙◌, sym, subst}
+use mathlib.Core.Path.{◌≡◌, refl, ◌∙◌, sym, subst}
 use mathlib.Core.Bool.{Bool, true, false, not}
 use mathlib.Core.List.{List}
 use Prim.Native.Nat.{ℕ, ◌+◌, ◌*◌, ◌^◌, ◌≤◌, ◌<◌}
 use native.Mathlib.Omega.{arith}
-use borrow.Author.Tests.{ltb-false, not-true, not-false}
+use borrow.Author.Tests.{lt-ltb, ltb-false, not-true, not-false}
 use lib.Dec.{ltb}
 use lib.ListN.{length, take}
 use Rattle.meaning.specs.declared.Reason.TheVariants.{OutOfRange}
@@ -80,6 +80,14 @@ module _ (offset size : ℕ) (c out : List ℕ) (b : ℕ) (eb : b ≡ length c) 
   read_within m out' eo =
       let u : ltb (length c) (offset + size) ≡ false = rw (← eb) (not-true _ (sym et ∙ not-false t m)) in
       record { answer = rw u; output = rw u eo }
+
+-- so it is where the range begins behind the blob's last byte
+pub read_before : (offset size : ℕ) (c out : List ℕ) (b : ℕ) → b ≡ length c → b < offset → (q : Refusal) → q ≡ nowhere OutOfRange
+    → Reads (read_spelt offset size c) (Err q) out out
+unfolding not
+read_before offset size c out b eb l q eq =
+    let u : ltb b (offset + size) ≡ true = lt-ltb b (offset + size) (omega arith) in
+    read_past offset size c out b eb (not (ltb b (offset + size))) refl (rw u refl) q eq
 
 -- behind refusal 10 the read may start
 pub reading_starts : (e : Edition) (n : ℕ) (P row : List ℕ) (k offset size b : ℕ) → k ≤ length row → length P ≡ e.size * n

@@ -55,8 +55,11 @@ fn read_in(
     requires seen_value { (seen.old ≡ replicate n 0) × (length row.old ≡ n) }
     ensures { Reads (read_in e n pool.now records.now root offset (length out.old)) result out.old out.new }
 {
-    let (bytes, k) = check_blob::open::open_blob(e, pool, records, seen, row, n, root)?;
-    read_found(e, pool, row, n, bytes, k, offset, out)
+    // Kept as a match: the edit range_before_blob changes what it answers of a refusal.
+    match check_blob::open::open_blob(e, pool, records, seen, row, n, root) {
+        Err(r) => Err(r),
+        Ok((bytes, k)) => read_found(e, pool, row, n, bytes, k, offset, out),
+    }
 }
 
 // The whole call: refusals 1 and 2, then the read. Flags and row have a place for each slot of the pool.

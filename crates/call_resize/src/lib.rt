@@ -34,25 +34,30 @@ pub fn resize_call(
     requires drafts { Drafts e kept.old payload.old scratch.old }
     ensures { Ends e answer_of (resize_call e pool.old records.old root len) pool.old records.old result pool.new records.new }
 {
-    let reached = check_survey::reach(e, pool, records, seen, row, heights, firsts, root)?;
-    let n = reached.slots;
-    let notes = Notes {
-        heights: &heights[0..n],
-        firsts: &firsts[0..n],
-    };
-    found::resize_found(
-        e,
-        pool,
-        records,
-        &mut row[0..n],
-        notes,
-        kept,
-        payload,
-        scratch,
-        n,
-        root as usize,
-        reached.bytes as usize,
-        reached.leaves,
-        len,
-    )
+    // Kept as a match: the edit refused_is_done changes what it answers of a refusal.
+    match check_survey::reach(e, pool, records, seen, row, heights, firsts, root) {
+        Err(r) => Err(r),
+        Ok(reached) => {
+            let n = reached.slots;
+            let notes = Notes {
+                heights: &heights[0..n],
+                firsts: &firsts[0..n],
+            };
+            found::resize_found(
+                e,
+                pool,
+                records,
+                &mut row[0..n],
+                notes,
+                kept,
+                payload,
+                scratch,
+                n,
+                root as usize,
+                reached.bytes as usize,
+                reached.leaves,
+                len,
+            )
+        }
+    }
 }

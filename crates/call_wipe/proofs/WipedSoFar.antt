@@ -3,11 +3,12 @@ use Rattle.std.specs.Prelude.{Err, Ok}
 use mathlib.Core.Path.{◌≡◌, refl, ap, ◌∙◌, sym}
 use mathlib.Core.Bool.{Bool, true, false, not}
 use mathlib.Core.List.{List, ◌++◌, append_assoc, append-nil}
-use Prim.Native.Nat.{ℕ, zero, suc, ◌+◌, ◌*◌, ◌/◌, ◌<◌}
+use Prim.Native.Nat.{ℕ, zero, suc, ◌+◌, ◌*◌, ◌/◌, ◌≤◌, ◌<◌}
 use native.Mathlib.Numerals.{add-one}
 use native.Mathlib.Omega.{arith}
 use borrow.Author.Tests.{not-true, not-false}
 use lib.ListN.{length, take, replicate}
+use lib.Seq.{take_all}
 use Rattle.meaning.specs.declared.Reason.TheVariants.{WrongLengths}
 use Rattle.meaning.specs.Lists.{pick, pasted}
 use Rattle.meaning.specs.Bytes.{record_with, record_of}
@@ -42,6 +43,12 @@ module _ (n i : ℕ) (R₀ R : List ℕ) (l : length R₀ ≡ 12 * n) (kept : le
       let u : take (12 * i + 12) (pasted (12 * i) (record_of 0 0) R) ≡ take (12 * i) R ++ record_of 0 0 =
       ap (λ (j : ℕ). take (12 * i + j) (pasted (12 * i) (record_of 0 0) R)) (sym (record_length 0 0)) ∙ t in
       ap (λ (j : ℕ). take j R') (sym k) ∙ ap (take (12 * i + 12)) f ∙ u ∙ ap (λ (x : List ℕ). x ++ record_of 0 0) inv ∙ sym (free_more i)
+
+  pub free_end : n ≤ i → i ≤ n → R ≡ free_records n
+  free_end a b =
+      let z : i ≡ n = omega arith in
+      let t : take (12 * i) R ≡ R = take_all (12 * i) R (omega arith) in
+      sym t ∙ inv ∙ rw z
 
 pub free_start : (R : List ℕ) → take (12 * 0) R ≡ free_records 0
 unfolding free_records

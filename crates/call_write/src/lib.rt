@@ -30,11 +30,16 @@ pub fn write_call(
     requires rows { Rows e pool.old seen.old row.old heights.old firsts.old }
     ensures { Ends e answer_of (write_call e pool.old records.old root offset src.now) pool.old records.old result pool.new records.new }
 {
-    let reached = check_survey::reach(e, pool, records, seen, row, heights, firsts, root)?;
-    let n = reached.slots;
-    let notes = Notes {
-        heights: &heights[0..n],
-        firsts: &firsts[0..n],
-    };
-    put::write_noted(e, pool, records, notes, src, n, reached.bytes, offset)
+    // Kept as a match: the edit refused_is_done changes what it answers of a refusal.
+    match check_survey::reach(e, pool, records, seen, row, heights, firsts, root) {
+        Err(r) => Err(r),
+        Ok(reached) => {
+            let n = reached.slots;
+            let notes = Notes {
+                heights: &heights[0..n],
+                firsts: &firsts[0..n],
+            };
+            put::write_noted(e, pool, records, notes, src, n, reached.bytes, offset)
+        }
+    }
 }

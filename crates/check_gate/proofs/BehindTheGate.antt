@@ -6,7 +6,7 @@ use mathlib.Core.List.{List, [], ◌∷◌}
 use Prim.Native.Nat.{ℕ, ◌+◌, ◌-◌, ◌*◌, ◌/◌, ◌%◌, ◌≤◌, ◌<◌}
 use native.Mathlib.Nat.{div-add-mod'}
 use native.Mathlib.Omega.{arith}
-use borrow.Author.Tests.{lt-ltb, leb-true, eqb-true, not-true, not-false}
+use borrow.Author.Tests.{eq-eqb, ne_eqb, le-leb, lt-leb, lt-ltb, le-ltb, leb-true, eqb-true, not-true, not-false}
 use lib.Dec.{eqb, ltb}
 use lib.ListN.{length}
 use Rattle.meaning.specs.declared.Reason.TheVariants.{BadRecord, WrongLengths}
@@ -20,6 +20,28 @@ use Rattle.meaning.specs.Answers.{answer_of}
 use Rattle.laws.proofs.Inversions.{both_true}
 use Rattle.laws.proofs.Ranges.{left_step, left_none}
 use Rattle.check_gate.specs.Gate.{records_gate, gate, through, Whole, Opened}
+
+-- refusal 1, test by test
+module _ (e : Edition) (P R : List ℕ) where
+  pub sized_not : (length P % e.size ≡ 0 → ⊥) → false ≡ sized e P R
+  unfolding sized both
+  sized_not n = simp (ne_eqb (length P % e.size) 0 n)
+
+  module _ (z : length P % e.size ≡ 0) where
+    pub sized_none : length P / e.size < 1 → false ≡ sized e P R
+    unfolding sized both slots_in
+    sized_none l = simp (eq-eqb (length P % e.size) 0 z, lt-leb 1 (length P / e.size) l)
+
+    module _ (s : 1 ≤ length P / e.size) where
+      pub sized_many : e.most < length P / e.size → false ≡ sized e P R
+      unfolding sized both slots_in
+      sized_many l =
+          simp (eq-eqb (length P % e.size) 0 z, le-leb 1 (length P / e.size) s, lt-leb (length P / e.size) e.most l)
+
+      pub sized_records : length P / e.size ≤ e.most → eqb (length R) (12 * (length P / e.size)) ≡ sized e P R
+      unfolding sized both slots_in
+      sized_records l =
+          simp (eq-eqb (length P % e.size) 0 z, le-leb 1 (length P / e.size) s, le-leb (length P / e.size) e.most l)
 
 -- what refusal 1 leaves
 pub sized_whole : (e : Edition) (P R : List ℕ) → sized e P R ≡ true → Whole e (slots_in e P) P R
@@ -136,6 +158,10 @@ module _ (e : Edition) (P R : List ℕ) (x : Opened) (ex : x ≡ gate e P R) whe
 
 -- refusal 3
 module _ (R : List ℕ) (n r : ℕ) where
+  pub root_past : n ≤ r → false ≡ both (ltb r n) (eqb (state R r) 2)
+  unfolding both
+  root_past l = simp (le-ltb r n l)
+
   pub root_state : r < n → (b : List ℕ) → b ≡ record_at R r → (st : ℕ) → st ≡ state_of b → eqb st 2 ≡ both (ltb r n) (eqb (state R r) 2)
   unfolding both state
   root_state l b eb st es = rw (es, eb) (simp (lt-ltb r n l))

@@ -5,7 +5,8 @@ use mathlib.Core.Bool.{Bool, true, false, not}
 use mathlib.Core.List.{List, [], ◌∷◌}
 use Prim.Native.Nat.{ℕ, zero, suc, ◌+◌, ◌-◌, ◌*◌, ◌≤◌, ◌<◌}
 use native.Mathlib.Omega.{arith}
-use borrow.Author.Tests.{eq-eqb, ne_eqb, le-leb, lt-leb, lt-ltb, le-ltb}
+use borrow.Author.Tests.{eq-eqb, ne_eqb, le-leb, lt-leb, lt-ltb, le-ltb, not-true, not-false}
+use lib.Dec.{leb}
 use lib.ListN.{length, get_or, take, drop}
 use Rattle.meaning.specs.declared.Reason.TheVariants.{Spoiled, Moved, RolledBack, Ahead, WrongShape}
 use Rattle.meaning.specs.declared.Reason.{Reason}
@@ -13,7 +14,7 @@ use Rattle.meaning.specs.declared.Edition.{Edition}
 use Rattle.meaning.specs.declared.Refusal.{Refusal}
 use Rattle.meaning.specs.Lists.{pick, both, part, number, same_list, zeros}
 use Rattle.meaning.specs.Edition.{Proper}
-use Rattle.meaning.specs.Bytes.{height_of, count_of, own_slot, version_of}
+use Rattle.meaning.specs.Bytes.{height_of, count_of, own_slot, version_of, state_of, recorded_of, sound_record}
 use Rattle.meaning.specs.Shape.{least_count, most_count}
 use Rattle.meaning.specs.Refusals.{at, must, unless}
 use Rattle.laws.proofs.Numbers.{part_front}
@@ -164,3 +165,29 @@ module _ (e : Edition) (h : ℕ) (root edge : Bool) (v s : ℕ) (b : List ℕ) (
     pub check_shape : f ≡ false → (r : Refusal) → r ≡ at WrongShape s → Err r ≡ block_check e h root edge v s b
     unfolding block_check unless must
     check_shape t r er = rw (← ex, z, ← ef, t, er)
+
+-- the check of one record, as far as the code has come: m says whether the mark is right, st is the state
+module _ (r : List ℕ) (m : Bool) (em : m ≡ same_list (take 2 r) (0x52 ∷ 0x31 ∷ [])) where
+  pub sound_mark : not m ≡ true → false ≡ sound_record r
+  unfolding sound_record both
+  sound_mark t = simp (← em, not-true m t)
+
+  module _ (t : not m ≡ false) (st : ℕ) (es : st ≡ state_of r) where
+    pub sound_state : 2 < st → false ≡ sound_record r
+    unfolding sound_record both
+    sound_state n = simp (← em, not-false m t, ← es, lt-leb st 2 n)
+
+    module _ (k : st ≤ 2) where
+      pub sound_fourth : (get_or r 3 0 ≡ 0 → ⊥) → false ≡ sound_record r
+      unfolding sound_record both
+      sound_fourth n = simp (← em, not-false m t, ← es, le-leb st 2 k, ne_eqb (get_or r 3 0) 0 n)
+
+      module _ (z : get_or r 3 0 ≡ 0) where
+        pub sound_free : st ≡ 0 → true ≡ sound_record r
+        unfolding sound_record both pick
+        sound_free f = simp (← em, not-false m t, ← es, le-leb st 2 k, eq-eqb (get_or r 3 0) 0 z, eq-eqb st 0 f)
+
+        pub sound_live : (st ≡ 0 → ⊥) → (v : ℕ) → v ≡ recorded_of r → leb 1 v ≡ sound_record r
+        unfolding sound_record both pick
+        sound_live f v ev =
+            simp (← em, not-false m t, ← es, le-leb st 2 k, eq-eqb (get_or r 3 0) 0 z, ne_eqb st 0 f, ← ev)

@@ -1,14 +1,14 @@
 -- Parts of lists, and little-endian numbers: a number over a list is one over its front plus, shifted, one over the rest,
--- and a number's lowest bytes are those of its front, then those of what is left. Where the bytes are below 256 and the
--- number fits, each undoes the other.
-use mathlib.Core.Path.{◌≡◌, refl, ap, ◌∙◌, sym}
+-- and a number's lowest bytes are those of its front, then those of what is left: one byte more at the end, for a loop that
+-- stores byte after byte. Where the bytes are below 256 and the number fits, each undoes the other.
+use mathlib.Core.Path.{◌≡◌, refl, ap, ◌∙◌, sym, subst}
 use mathlib.Core.List.{List, [], ◌∷◌, ◌++◌}
 use Prim.Native.Nat.{ℕ, zero, suc, ◌+◌, ◌-◌, ◌*◌, ◌/◌, ◌%◌, ◌^◌, ◌<◌, ◌≤◌}
 use native.Mathlib.Nat.{mul_comm, mul_assoc, pow-suc, pow-succ', zero-add, one-mul, div-one, div-div-eq-div-mul, div-lt_iff_lt-mul}
 use native.Mathlib.Numerals.{add-one}
 use native.Mathlib.Omega.{arith}
 use lib.ListN.{length, get_or, take, drop, length-drop}
-use lib.Seq.{take-add, take-take, drop_at, drop-drop, drop-cons, length-take-le}
+use lib.Seq.{take-add, take-suc, take-take, drop_at, drop-drop, drop-cons, get_or-drop, length-take-le}
 use Rattle.meaning.specs.Lists.{part, number, bytes}
 
 -- a part of j + k elements is one of j, then one of k
@@ -35,6 +35,13 @@ part_part at n b k l h f =
     let e : drop b (take n (drop at l)) ≡ take (n - b) (drop b (drop at l)) = ap (λ (z : ℕ). drop b (take z (drop at l))) (sym m) ∙ part_front b (n - b) (drop at l) s in
     ap (take k) e ∙ take-take k (n - b) (drop b (drop at l)) (omega arith) ∙ rw drop-drop
 
+-- a part of one more is the part, then the next element
+pub part_more : (at k : ℕ) (l : List ℕ) → at + k < length l → part at (k + 1) l ≡ part at k l ++ (get_or l (at + k) 0 ∷ [])
+unfolding part
+part_more at k l h =
+    let n : k < length (drop at l) = rw length-drop (omega arith) in
+    rw (add-one, take-suc (drop at l) k 0 n, get_or-drop)
+
 -- the number over two lists in a row
 pub number_append : (a b : List ℕ) → number (a ++ b) ≡ number a + 256 ^ length a * number b
 unfolding number
@@ -55,6 +62,11 @@ pub number_one : (at : ℕ) (l : List ℕ) → at < length l → number (part at
 unfolding number part
 number_one at l h = rw (drop-cons l at 0 h) (omega arith)
 
+-- the number in two bytes
+pub number_two : (at : ℕ) (l : List ℕ) (x y : ℕ) → at + 2 ≤ length l → x ≡ get_or l at 0 → y ≡ get_or l (at + 1) 0 → x + 256 * y ≡ number (part at 2 l)
+number_two at l x y h ex ey =
+    omega (arith, number_split 1 1 at l (omega arith), number_one at l (omega arith), number_one (at + 1) l (omega arith))
+
 -- k lowest bytes are k long
 pub bytes_length : (k n : ℕ) → length (bytes k n) ≡ k
 unfolding bytes
@@ -70,6 +82,11 @@ bytes_split (suc j) k n =
     let d : n / 256 ^ suc j ≡ n / 256 / 256 ^ j = rw (pow-succ', div-div-eq-div-mul) in
     rw (m, d, bytes_split j k (n / 256))
 
+-- one byte more
+pub bytes_more : (k n : ℕ) → bytes (k + 1) n ≡ bytes k n ++ (n / 256 ^ k % 256 ∷ [])
+unfolding bytes
+bytes_more k n = bytes_split k 1 n
+
 -- what is left of a number, one byte further
 pub rest_more : (k n rest : ℕ) → rest ≡ n / 256 ^ k → rest / 256 ≡ n / 256 ^ (k + 1)
 rest_more k n rest e = rw (e, add-one, pow-suc, div-div-eq-div-mul)
@@ -82,6 +99,28 @@ number_bytes (suc k) n h =
     let pw : 256 ^ suc k ≡ 256 ^ k * 256 = pow-suc 256 k in
     let small : n / 256 < 256 ^ k = (div-lt_iff_lt-mul {k = 256} {x = n} {y = 256 ^ k} (omega arith)).1 (omega arith) in
     omega (arith, number_bytes k (n / 256) small)
+
+-- a number of k bytes is below 256 ^ k
+below : (l : List ℕ) → ((i : ℕ) → get_or l i 0 < 256) → number l < 256 ^ length l
+unfolding number
+below [] h = omega arith
+below (x ∷ xs) h =
+    let pw : 256 ^ suc (length xs) ≡ 256 ^ length xs * 256 = pow-suc 256 (length xs) in
+    omega (arith, below xs (λ i. h (suc i)), pw, h 0)
+
+part_small : (at k : ℕ) (l : List ℕ) → ((i : ℕ) → get_or l i 0 < 256) → (i : ℕ) → get_or (part at k l) i 0 < 256
+unfolding part
+part_small at k l h i = take_small k (drop at l) (λ j. rw (get_or-drop) (h (at + j))) i
+  where
+    take_small : (k : ℕ) (l : List ℕ) → ((i : ℕ) → get_or l i 0 < 256) → (i : ℕ) → get_or (take k l) i 0 < 256
+    take_small zero l h i = omega arith
+    take_small (suc k) [] h i = omega arith
+    take_small (suc k) (x ∷ l) h zero = h 0
+    take_small (suc k) (x ∷ l) h (suc i) = take_small k l (λ j. h (suc j)) i
+
+pub number_below : (at k : ℕ) (l : List ℕ) → at + k ≤ length l → ((i : ℕ) → get_or l i 0 < 256) → number (part at k l) < 256 ^ k
+number_below at k l h small =
+    subst (λ (n : ℕ). number (part at k l) < 256 ^ n) (part_length at k l h) (below (part at k l) (part_small at k l small))
 
 -- a list of bytes
 pub record OfBytes (l : List ℕ) : Type 0 where

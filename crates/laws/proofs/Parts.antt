@@ -1,15 +1,20 @@
--- Parts lent and pasted.
+-- Parts lent and pasted, and slices filled from the front.
 -- A part that is lent from a up to a + n and comes back as n other elements is pasted over the list at a. What is pasted is
--- found where it was put, and nothing else changes.
+-- found where it was put, and nothing else changes. A loop that fills a slice has, at each turn, the first i elements right;
+-- one law says what a store at i does to them, and a law for each kind of filling follows from it.
 use mathlib.Core.Path.{◌≡◌, refl, ap, ◌∙◌, sym}
 use mathlib.Core.List.{List, [], ◌∷◌, ◌++◌, append_assoc}
-use Prim.Native.Nat.{ℕ, ◌+◌, ◌-◌, ◌≤◌}
+use mathlib.Core.Bool.{Bool, true, false}
+use Prim.Native.Nat.{ℕ, ◌+◌, ◌-◌, ◌/◌, ◌%◌, ◌^◌, ◌<◌, ◌≤◌}
+use native.Mathlib.Numerals.{add-one}
 use native.Mathlib.Omega.{arith}
+use borrow.Author.Tests.{eq-eqb, ne_eqb}
 use borrow.Rule.Slice.PartMut.{put_mid}
-use lib.ListN.{length, take, drop, replicate, length-append, length-drop, length-replicate, take-append-drop}
-use lib.Seq.{take_all, take-append-le, take-take, take_at, drop_at, drop-drop, length-take-le}
-use Rattle.meaning.specs.Lists.{part, pasted}
-use Rattle.laws.proofs.Numbers.{part_length, part_front}
+use lib.ListN.{length, get_or, take, drop, set, replicate, length-append, length-drop, length-replicate, take-append-drop, drop_of_length-le, replicate-append-replicate}
+use lib.Seq.{take-suc-set, take_all, take-append-le, take-take, take_at, drop_at, drop-drop, drop-cons, length-take-le}
+use lib.Dec.{eqb}
+use Rattle.meaning.specs.Lists.{both, all, part, pasted, same_list, bytes, zeros}
+use Rattle.laws.proofs.Numbers.{part_length, part_front, bytes_length, bytes_more}
 
 -- a lent part from a up to a + n is that part
 pub lent_part : {A : Type 0} (a n : ℕ) (l : List A) → take (a + n - a) (drop a l) ≡ part a n l
@@ -37,6 +42,10 @@ lent_length a n l h = ap length (lent_part a n l) ∙ part_length a n l h
 pub lent_filled : (right : ℕ → List ℕ) (a n : ℕ) (l ys : List ℕ) → a + n ≤ length l → length (right n) ≡ n → ys ≡ right (length (take (a + n - a) (drop a l)))
     → put_mid a (a + n - a) l ys ≡ pasted a (right n) l
 lent_filled right a n l ys h k e = lent_back a n l ys (right n) (e ∙ ap right (lent_length a n l h)) k
+
+-- a lent part that came back as a number
+pub number_back : (a n x : ℕ) (l ys : List ℕ) → a + n ≤ length l → ys ≡ bytes (length (take (a + n - a) (drop a l))) x → put_mid a (a + n - a) l ys ≡ pasted a (bytes n x) l
+number_back a n x l ys h e = lent_filled (λ (m : ℕ). bytes m x) a n l ys h (bytes_length n x) e
 
 -- a lent part that came back as a part of another list
 pub copy_back : (a n at : ℕ) (l s ys : List ℕ) → a + n ≤ length l → at + n ≤ length s → ys ≡ part at (length (take (a + n - a) (drop a l))) s
@@ -106,3 +115,65 @@ module _ {A : Type 0} (at : ℕ) (new l : List A) (fits : at + length new ≤ le
   pub part_pasted_after : (a n : ℕ) → at + length new ≤ a → part a n (pasted at new l) ≡ part a n l
   unfolding part
   part_pasted_after a n h = rw (drop_pasted a h)
+
+-- a store behind the first i elements
+pub filled_more : (d front : List ℕ) (i v : ℕ) → take i d ≡ front → i < length d → take (i + 1) (set d i v) ≡ front ++ (v ∷ [])
+filled_more d front i v e h = rw (add-one, take-suc-set d i v h, e)
+
+-- a slice whose first i elements are right is right where i is its length
+pub filled_whole : (right : ℕ → List ℕ) (d₀ d : List ℕ) (i : ℕ) → i ≤ length d₀ → length d ≡ length d₀ → take i d ≡ right i → length d ≤ i → d ≡ right (length d₀)
+filled_whole right d₀ d i k n e h =
+    let m : i ≡ length d₀ = omega arith in
+    sym (take_all i d h) ∙ e ∙ ap right m
+
+-- clearing: one zero more
+pub cleared_more : (d : List ℕ) (i : ℕ) → take i d ≡ replicate i 0 → i < length d → take (i + 1) (set d i 0) ≡ replicate (i + 1) 0
+cleared_more d i e h = filled_more d (replicate i 0) i 0 e h ∙ replicate-append-replicate i 1 0
+
+-- clearing: all of it
+pub cleared_whole : (d₀ d : List ℕ) (i : ℕ) → i ≤ length d₀ → length d ≡ length d₀ → take i d ≡ replicate i 0 → length d ≤ i → d ≡ replicate (length d₀) 0
+cleared_whole d₀ d i = filled_whole (λ (n : ℕ). replicate n 0) d₀ d i
+
+-- writing a number: one byte more of x
+pub written_more : (d : List ℕ) (x rest i : ℕ) → take i d ≡ bytes i x → rest ≡ x / 256 ^ i → i < length d → take (i + 1) (set d i (rest % 256)) ≡ bytes (i + 1) x
+written_more d x rest i e r h =
+    filled_more d (bytes i x) i (rest % 256) e h ∙ rw (r, bytes_more)
+
+-- writing a number: all of it
+pub written_whole : (d₀ d : List ℕ) (x i : ℕ) → i ≤ length d₀ → length d ≡ length d₀ → take i d ≡ bytes i x → length d ≤ i → d ≡ bytes (length d₀) x
+written_whole d₀ d x i = filled_whole (λ (n : ℕ). bytes n x) d₀ d i
+
+-- whether all are zero, where those before i are
+module _ (l : List ℕ) (i : ℕ) (inv : zeros l ≡ zeros (drop i l)) where
+  -- at the end
+  pub zeros_end : length l ≤ i → true ≡ zeros l
+  unfolding zeros all
+  zeros_end h = rw (inv, drop_of_length-le l {i = i} h)
+
+  -- at an element that is not zero
+  pub zeros_stop : i < length l → (get_or l i 0 ≡ 0 → ⊥) → false ≡ zeros l
+  unfolding zeros all both
+  zeros_stop h n = rw (inv, drop-cons l i 0 h) (simp (ne_eqb (get_or l i 0) 0 n))
+
+  -- past a zero
+  pub zeros_more : i < length l → get_or l i 0 ≡ 0 → zeros l ≡ zeros (drop (i + 1) l)
+  unfolding zeros all both
+  zeros_more h n = rw (inv, drop-cons l i 0 h, add-one) (simp (eq-eqb (get_or l i 0) 0 n))
+
+-- the first two bytes are x and y, or the first is another
+pub starts_not : (b : List ℕ) (x y : ℕ) → 2 ≤ length b → (get_or b 0 0 ≡ x → ⊥) → false ≡ same_list (take 2 b) (x ∷ y ∷ [])
+unfolding same_list both
+starts_not [] x y h n = absurd (omega arith)
+starts_not (a ∷ []) x y h n = absurd (omega arith)
+starts_not (a ∷ b ∷ l) x y h n = simp (ne_eqb a x n)
+
+both_last : (t : Bool) → t ≡ both t true
+unfolding both
+both_last true = refl
+both_last false = refl
+
+pub starts_so : (b : List ℕ) (x y : ℕ) → 2 ≤ length b → get_or b 0 0 ≡ x → eqb (get_or b 1 0) y ≡ same_list (take 2 b) (x ∷ y ∷ [])
+unfolding same_list both
+starts_so [] x y h n = absurd (omega arith)
+starts_so (a ∷ []) x y h n = absurd (omega arith)
+starts_so (a ∷ b ∷ l) x y h n = simp (eq-eqb a x n) (both_last (eqb b y))

@@ -1,5 +1,6 @@
 -- What a reading call answers on another pool of the same size, with the same records: the same, exactly if every block of its blob is as
 -- it was; otherwise a refusal that names the first block, in walk order, that is not.
+use Rattle.std.specs.Prelude.{Some}
 use mathlib.Core.Path.{◌≡◌, refl, sym, ap, subst, ◌∙◌}
 use mathlib.Core.Logic.{◌⊎◌, inl, inr, ⊎_elim}
 use mathlib.Core.Bool.{true}
@@ -19,7 +20,7 @@ use Rattle.meaning.specs.Calls.{Outcome, refused, refuse_if, after_check, slots_
 use Rattle.meaning.specs.declared.Reason.{Reason}
 use Rattle.laws.proofs.Inversions.{by_test, same_list_lem}
 use Rattle.laws.proofs.Every.{Every, every_right, range_every}
-use Rattle.laws_history.proofs.Local.{unlike, Same, other_why, Told, first_other, other_none, other_first, other_number, check_other}
+use Rattle.laws_history.proofs.Local.{unlike, Same, other_flaw, other_why, Told, first_other, other_none, other_first, other_found, other_number, check_other}
 use Rattle.laws.proofs.Walked.{slots_in_lem}
 use Rattle.laws_history.proofs.Started.{Sized, so_sized, other_sized}
 
@@ -64,7 +65,7 @@ each_or_first e P P* (x ∷ xs) =
 pub record Stopped {A : Type 0} (e : Edition) (P P* R slots : List ℕ) (o : Outcome A) : Type 0 where
   pub first : FirstOther e P P* slots
   pub why : Reason
-  pub found : why ≡ other_why e P* R first.slot
+  pub found : Some why ≡ other_flaw e P* R first.slot
   pub low : 4 ≤ number_of why
   pub high : number_of why ≤ 7
   pub answer : o ≡ refused (at why first.slot)
@@ -83,13 +84,14 @@ module _ {A : Type 0} (e : Edition) (P P* R : List ℕ) (b : Blob) (seen : List 
   unfolding after_check
   stopped f =
       let told_here : Every (Told e P P* R) (f.before ++ (f.slot ∷ f.later)) = subst (λ (l : List ℕ). Every (Told e P P* R) l) f.split told in
-      let n = other_number e P P* R f.slot (every_right (Told e P P* R) f.before (f.slot ∷ f.later) told_here).0 f.differs in
+      let told_slot : Told e P P* R f.slot = (every_right (Told e P P* R) f.before (f.slot ∷ f.later) told_here).0 in
+      let n = other_number e P P* R f.slot told_slot f.differs in
       let found = ap (λ (l : List ℕ). first_other e P P* R l (fine b seen)) f.split
       ∙ other_first e P P* R f.before f.slot f.later _ f.same f.differs in
       record {
         first = f;
         why = other_why e P* R f.slot;
-        found = refl;
+        found = sym (other_found e P P* R f.slot told_slot f.differs);
         low = n.0;
         high = n.1;
         answer = ap (λ f. after_check f k) found;

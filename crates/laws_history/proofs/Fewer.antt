@@ -1,6 +1,6 @@
 -- A walk that goes well with slots already visited goes well with fewer, and finds the same: check 1 asks only that a child was not visited.
 -- So where the pool check passes, the blob check of every root passes.
-use Rattle.std.specs.Prelude.{Err, Ok}
+use Rattle.std.specs.Prelude.{Ok}
 use mathlib.Core.Path.{◌≡◌, refl, sym, ap, subst, ◌∙◌}
 use mathlib.Core.Bool.{Bool, true}
 use mathlib.Core.List.{List, [], ◌∷◌}

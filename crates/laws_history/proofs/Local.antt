@@ -112,10 +112,14 @@ module _ (e : Edition) (P P* R : List ℕ) where
       (λ t. absurd (d (same_list_lem (block e P* x) (block e P x) t)))
       (λ t. other_here x later f t)
 
+  -- check 2 finds it
+  pub other_found : (x : ℕ) → Told e P P* R x → (Same e P P* x → ⊥) → other_flaw e P* R x ≡ Some (other_why e P* R x)
+  other_found x told d = some_why (other_flaw e P* R x) (λ z. d (told z))
+
   -- its number is one of check 2's
   pub other_number : (x : ℕ) → Told e P P* R x → (Same e P P* x → ⊥) → (4 ≤ number_of (other_why e P* R x)) × (number_of (other_why e P* R x) ≤ 7)
   other_number x told d =
-      flaw_number e (recorded R x) x (block e P* x) (other_why e P* R x) (some_why (other_flaw e P* R x) (λ z. d (told z)))
+      flaw_number e (recorded R x) x (block e P* x) (other_why e P* R x) (other_found x told d)
 
   -- what fails check 2 fails the block's checks
   faulty : (h : ℕ) (root edge : Bool) (s : ℕ) → (other_flaw e P* R s ≡ None → ⊥)

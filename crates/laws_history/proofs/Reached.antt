@@ -1,7 +1,7 @@
 -- What holds of each slot that a walk visited. A claim that follows from check 1 (the slot is in the pool and live) and check 2 (the block
 -- there has no flaw) holds of every slot of the tree, and of every slot that is flagged as visited. The pool check goes from every root
 -- and leaves no part unvisited, so after it such a claim holds of every live slot.
-use Rattle.std.specs.Prelude.{Err, Ok, None}
+use Rattle.std.specs.Prelude.{Ok, None}
 use mathlib.Core.Path.{◌≡◌, refl, sym, ap, subst, ◌∙◌}
 use mathlib.Core.Bool.{Bool, true}
 use mathlib.Core.List.{List, [], ◌∷◌, map}

@@ -1,5 +1,5 @@
 // A blob that gets longer: what the slots become that it has, its root and its other blocks by where they stand. Nothing is stored here.
-ghost use Rattle.std.specs.Prelude.{◌≡◌, ◌-◌, ◌^◌, ◌≤◌, ◌<◌, eqb, length, get_or};
+ghost use Rattle.std.specs.Prelude.{◌≡◌, ◌-◌, ◌^◌, ◌≤◌, eqb, length, get_or};
 ghost use Rattle.meaning.specs.Lists.{both};
 ghost use Rattle.meaning.specs.Edition.{Proper};
 ghost use Rattle.meaning.specs.Bytes.{block, height_of, count_of};
@@ -49,7 +49,7 @@ fn is_settled(e: Edition, long: usize, block: &[u8], h: usize, first: usize) -> 
         && fields::count_of(block) == payload::share_of(e, long, first)
 }
 
-// What another block of the blob becomes, of that height, by where it stands. A leaf that stays is not drawn.
+// What another block of the blob becomes, by where it stands. A leaf that stays is not drawn.
 pub fn plan_old(
     e: Edition,
     g: Growth,
@@ -58,15 +58,14 @@ pub fn plan_old(
     notes: Notes,
     payload: &mut [u8],
     i: usize,
-    h: usize,
 ) -> Turn
     requires proper { Proper e }
     requires grows { Grows e g }
     requires spot { Spot e g pool.now notes.heights.now notes.firsts.now i }
-    requires h_value { (h ≡ get_or notes.heights.now i 0 - 1) × (h < 256) }
     requires payload_len { (length payload.old ≡ e.leaf) × (1 ≤ get_or notes.heights.now i 0) }
     ensures { Redraws e (block e pool.now i) (old_end e g pool.now free.now notes.entry.heights.now notes.entry.firsts.now i) result payload.new }
 {
+    let h = notes.heights[i] as usize - 1;
     let first = notes.first_at(i);
     let block = slot::block_of(e, pool, i);
     if is_settled(e, g.length, block, h, first) {

@@ -52,6 +52,6 @@ pub fn plan_slot(
     }
     match notes.height_at(i) {
         None => taken::plan_free(e, g, t, records, free, kept, payload, i, below),
-        Some(h) => enlarged::plan_old(e, g, pool, free, notes, payload, i, h),
+        Some(_) => enlarged::plan_old(e, g, pool, free, notes, payload, i),
     }
 }

@@ -1,1 +1,2 @@
+pub mod ChangeAsCall
 pub mod ChangesAtOne

@@ -9,6 +9,7 @@ ghost use Rattle.check_survey.specs.Reached.{Rows};
 ghost use Rattle.rows_change.specs.change.{no_delete, no_write, no_resize};
 
 use meaning::Refusal;
+use rows_size::{FEW, MORE};
 
 // What is to become of a blob: one of document 01's calls.
 pub trait Change: Drop {
@@ -32,7 +33,7 @@ pub trait Change: Drop {
 }
 
 // Every block of it goes.
-#[derive(Drop)]
+#[derive(Clone, Copy, Drop)]
 pub struct Delete {
     pub root: u64,
 }
@@ -69,7 +70,7 @@ impl Change for Delete {
 }
 
 // Bytes are put inside its length, from an offset on.
-#[derive(Drop)]
+#[derive(Clone, Copy, Drop)]
 pub struct Write<'a> {
     pub root: u64,
     pub offset: u64,
@@ -100,7 +101,7 @@ impl<'a> Change for Write<'a> {
 }
 
 // It gets another length.
-#[derive(Drop)]
+#[derive(Clone, Copy, Drop)]
 pub struct Resize {
     pub root: u64,
     pub len: u64,
@@ -172,8 +173,8 @@ pub fn in_rows<C: Change>(pool: &mut [u8], records: &mut [u8], change: C) -> Res
     ensures { Ends one answer_of (C.call change pool.old records.old) pool.old records.old result pool.new records.new }
 {
     match rows_size::slots_of(pool) {
-        0..=128 => in_places::<128, C>(pool, records, change),
-        129..=1024 => in_places::<1024, C>(pool, records, change),
+        0..=FEW => in_places::<FEW, C>(pool, records, change),
+        129..=MORE => in_places::<MORE, C>(pool, records, change),
         1025..=8192 => in_places::<8192, C>(pool, records, change),
         _ => in_places::<65536, C>(pool, records, change),
     }

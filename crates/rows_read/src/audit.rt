@@ -6,6 +6,7 @@ ghost use Rattle.meaning.specs.Answers.{answer_of};
 ghost use Rattle.check_gate.specs.Places.{Clear};
 
 use meaning::Refusal;
+use rows_size::{FEW, MORE};
 
 // In rows that are lent.
 fn in_lent(pool: &[u8], records: &[u8], seen: &mut [u8]) -> Result<u64, Refusal>
@@ -33,8 +34,8 @@ pub fn in_rows(pool: &[u8], records: &[u8]) -> Result<u64, Refusal>
     ensures { result ≡ answer_of (audit_call one pool.now records.now) }
 {
     match rows_size::slots_of(pool) {
-        0..=128 => in_places::<128>(pool, records),
-        129..=1024 => in_places::<1024>(pool, records),
+        0..=FEW => in_places::<FEW>(pool, records),
+        129..=MORE => in_places::<MORE>(pool, records),
         1025..=8192 => in_places::<8192>(pool, records),
         _ => in_places::<65536>(pool, records),
     }

@@ -8,6 +8,7 @@ ghost use Rattle.check_gate.specs.Places.{Clear};
 
 use call_show::find;
 use meaning::Refusal;
+use rows_size::{FEW, MORE};
 
 // In rows that are lent.
 fn in_lent(
@@ -50,8 +51,8 @@ pub fn in_rows(pool: &[u8], records: &[u8], root: u64, leaf: u64) -> Result<(usi
     ensures lies { Lies result (length pool.now) }
 {
     match rows_size::slots_of(pool) {
-        0..=128 => in_places::<128>(pool, records, root, leaf),
-        129..=1024 => in_places::<1024>(pool, records, root, leaf),
+        0..=FEW => in_places::<FEW>(pool, records, root, leaf),
+        129..=MORE => in_places::<MORE>(pool, records, root, leaf),
         1025..=8192 => in_places::<8192>(pool, records, root, leaf),
         _ => in_places::<65536>(pool, records, root, leaf),
     }

@@ -6,6 +6,7 @@ ghost use Rattle.meaning.specs.Answers.{answer_of};
 ghost use Rattle.check_gate.specs.Places.{Clear};
 
 use meaning::Refusal;
+use rows_size::{FEW, MORE};
 
 // In rows that are lent.
 fn in_lent(
@@ -39,8 +40,8 @@ pub fn in_rows(pool: &[u8], records: &[u8], root: u64) -> Result<u64, Refusal>
     ensures { result ≡ answer_of (length_call one pool.now records.now root) }
 {
     match rows_size::slots_of(pool) {
-        0..=128 => in_places::<128>(pool, records, root),
-        129..=1024 => in_places::<1024>(pool, records, root),
+        0..=FEW => in_places::<FEW>(pool, records, root),
+        129..=MORE => in_places::<MORE>(pool, records, root),
         1025..=8192 => in_places::<8192>(pool, records, root),
         _ => in_places::<65536>(pool, records, root),
     }

@@ -6,6 +6,7 @@ ghost use Rattle.meaning.specs.Answers.{Reads};
 ghost use Rattle.check_gate.specs.Places.{Clear};
 
 use meaning::Refusal;
+use rows_size::{FEW, MORE};
 
 // In rows that are lent.
 fn in_lent(
@@ -53,8 +54,8 @@ pub fn in_rows(
     ensures { Reads (read_call one pool.now records.now root offset (length out.old)) result out.old out.new }
 {
     match rows_size::slots_of(pool) {
-        0..=128 => in_places::<128>(pool, records, root, offset, out),
-        129..=1024 => in_places::<1024>(pool, records, root, offset, out),
+        0..=FEW => in_places::<FEW>(pool, records, root, offset, out),
+        129..=MORE => in_places::<MORE>(pool, records, root, offset, out),
         1025..=8192 => in_places::<8192>(pool, records, root, offset, out),
         _ => in_places::<65536>(pool, records, root, offset, out),
     }

@@ -1,7 +1,7 @@
--- Rows of m places suffice for a pool of at most m slots.
+-- Rows of m places suffice for a pool of at most m slots; and a size that suffices is found by going up.
 use mathlib.Core.Path.{◌≡◌, refl, ap, sym}
 use mathlib.Core.List.{List}
-use Prim.Native.Nat.{ℕ, ◌/◌, ◌≤◌}
+use Prim.Native.Nat.{ℕ, ◌-◌, ◌*◌, ◌/◌, ◌^◌, ◌≤◌, ◌<◌}
 use native.Mathlib.Omega.{arith}
 use lib.ListN.{length, replicate, length-replicate}
 use Rattle.meaning.specs.Edition.{one}
@@ -23,3 +23,19 @@ module _ (P : List ℕ) (m : ℕ) (few : slots_in one P ≤ m) where
 pub slots_said : (P : List ℕ) → length P / 64 ≡ slots_in one P
 unfolding slots_in one
 slots_said P = refl
+
+-- the next size is nearer to the largest
+pub goes_up : (P : List ℕ) (n places t : ℕ) → n ≡ slots_in one P → slots_in one P ≤ 65536 → 1 ≤ places → places < n → 65536 - places ≡ t
+    → 65536 - 8 * places < t
+goes_up P n places t en most some less et = omega (arith, en, most, some, less, et)
+
+pub still_some : (places : ℕ) → 1 ≤ places → 1 ≤ 8 * places
+still_some places some = omega (arith, some)
+
+-- and a number of the machine
+pub mul_fits : (P : List ℕ) (n places : ℕ) → n ≡ slots_in one P → slots_in one P ≤ 65536 → places < n → 8 * places < 2 ^ 64
+mul_fits P n places en most less = omega (arith, en, most, less)
+
+-- a size that is not too small
+pub suffices : (P : List ℕ) (n places m : ℕ) → n ≡ slots_in one P → n ≤ places → places ≡ m → slots_in one P ≤ m
+suffices P n places m en le eq = omega (arith, en, le, eq)

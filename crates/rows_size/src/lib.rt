@@ -6,6 +6,11 @@ ghost use Rattle.std.specs.Prelude.{◌≡◌};
 ghost use Rattle.meaning.specs.Edition.{one};
 ghost use Rattle.meaning.specs.Calls.{slots_in, sized};
 
+// The places of the smallest rows, and of the next.
+pub const FEW: usize = 128;
+
+pub const MORE: usize = 1024;
+
 // How many slots a pool has.
 pub fn slots_of(pool: &[u8]) -> usize
     ensures { result ≡ slots_in one pool.now }

@@ -1,14 +1,16 @@
 -- Refusal 1, which a public call makes before it has any rows; and that behind it the largest rows suffice.
-use Rattle.std.specs.Prelude.{Err, Ok}
-use mathlib.Core.Path.{◌≡◌, refl, ap, ◌∙◌, sym}
-use mathlib.Core.Bool.{Bool, true, false, not}
+use Rattle.std.specs.Prelude.{Err, Ok, Result}
+use mathlib.Core.Path.{◌≡◌, refl, ap, ◌∙◌, sym, subst}
+use mathlib.Core.Bool.{Bool, true, false}
 use mathlib.Core.List.{List}
 use Prim.Native.Nat.{ℕ, ◌≤◌}
+use native.Mathlib.Omega.{arith}
 use Rattle.meaning.specs.declared.Reason.TheVariants.{WrongLengths}
 use Rattle.meaning.specs.Edition.{one}
 use Rattle.meaning.specs.Refusals.{must, nowhere, Checked}
 use Rattle.meaning.specs.Calls.{Outcome, refused, slots_in, sized, opened, length_in, read_in, show_in, audit_in, create_in, length_call, read_call, show_call, audit_call, create_call, after}
-use Rattle.meaning.specs.Answers.{answer_of, finish_answer, leaf_answer, read_out, Reads, Ends}
+use Rattle.meaning.specs.Answers.{answer_of, finish_answer, leaf_answer, read_out, Reads, Ends, Wipes}
+use Rattle.meaning.specs.declared.Edition.{Edition}
 use Rattle.meaning.specs.declared.Refusal.{Refusal}
 use Rattle.laws.proofs.Inversions.{must_passed, passed_faultless}
 use Rattle.call_show.specs.place.{Lies}
@@ -78,3 +80,11 @@ module _ (P R : List ℕ) (x : Checked) (ex : x ≡ must (sized one P R) (nowher
     pub no_change : (o : Outcome (Unit {0})) → (sized one P R ≡ false → o ≡ refused (nowhere WrongLengths)) → Ends one answer_of o P R (Err q) P R
     unfolding answer_of after
     no_change o wrong = let u = wrong not_sized.0 in record { answer = rw (u, not_sized.1); pool = rw u; records = rw u }
+
+-- rows of the smallest size suffice
+pub few_slots : (P : List ℕ) (n : ℕ) → n ≡ slots_in one P → n ≤ 128 → slots_in one P ≤ 128
+few_slots P n en l = omega (arith, en, l)
+
+-- the wipe of any edition, at edition one
+pub wipe_one : (e : Edition) → e ≡ one → (P R : List ℕ) (x : Result (Unit {0}) Refusal) (P' R' : List ℕ) → Wipes e P R x P' R' → Wipes one P R x P' R'
+wipe_one e ee P R x P' R' h = subst (λ (y : Edition). Wipes y P R x P' R') ee h

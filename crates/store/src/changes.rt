@@ -27,8 +27,11 @@ pub fn create(pool: &mut [u8], records: &mut [u8]) -> Result<u64, Refusal>
 fn change_blob<C: Change>(pool: &mut [u8], records: &mut [u8], change: C) -> Result<(), Refusal>
     ensures { Ends one answer_of (C.call change pool.old records.old) pool.old records.old result pool.new records.new }
 {
-    check_lengths(pool, records)?;
-    rows_change::change::in_rows(pool, records, change)
+    // Kept as a match: the edit changes_refuse_with_two changes what it answers of wrong lengths.
+    match check_lengths(pool, records) {
+        Err(r) => Err(r),
+        Ok(()) => rows_change::change::in_rows(pool, records, change),
+    }
 }
 
 // Every block of a blob goes.

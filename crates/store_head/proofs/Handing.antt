@@ -28,6 +28,14 @@ unfolding bytes_of
 bytes_or_none (Ok n) = refl
 bytes_or_none (Err r) = refl
 
+pub bytes_there : (a : Result ℕ Refusal) (n : ℕ) → a ≡ Ok n → n ≡ bytes_of a
+unfolding bytes_of
+bytes_there a n ea = rw ea
+
+pub bytes_none : (a : Result ℕ Refusal) (q : Refusal) → a ≡ Err q → 0 ≡ bytes_of a
+unfolding bytes_of
+bytes_none a q ea = rw ea
+
 module _ (root place : ℕ) (a : Result ℕ Refusal) (n : ℕ) (en : n ≡ bytes_of a) where
   pub place_moves : (k c : ℕ) → c ≡ handed n place k → place + c ≡ place_after root place a k
   unfolding place_after moved head_in

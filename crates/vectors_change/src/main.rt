@@ -3,9 +3,9 @@
 // stdout was written by the plain store of host/reference, which shares no code with this one.
 #![tactic(auto)]
 
-use std::io;
+use vectors_play::player::{Plays, play};
 
 // The script is the input.
-fn main(rt: HostRuntime) -> io::Result<()> {
-    vectors_play::player::play(&rt)
+fn main() {
+    play(Plays::All);
 }

@@ -1,110 +1,127 @@
 // For the programs of test vectors: a script played over a store, command by command.
 use crate::{changes, reads};
-use std::alloc::Global;
-use std::io::{self, BufWriter, Write};
 use vectors_print::dump;
+use vectors_print::out::Out;
 use vectors_script::command::{Call, Changing, Command, Reading, Round};
 use vectors_script::rounds;
 use vectors_script::store::Store;
+use vectors_script::text::{self, Step};
 
-// The store that was laid out, the script's last label, and where each call's line goes.
-#[derive(Drop)]
-struct Player<'s, 'o, W> {
-    store: Store,
-    label: &'s str,
-    out: &'o mut W,
+// What a program plays of a script.
+#[derive(Clone, Copy, Drop)]
+pub enum Plays {
+    // Reading calls alone, over as much of a store as there is room for.
+    Reads,
+    // Every call and print, but none over a store that there is no room for.
+    All,
 }
 
-impl<'s, W: Write> Player<'s, '_, W> {
+// What is played, the script's last label, and where each call's line goes. The store that was laid out is lent to each step: within this struct it would
+// take its room in the stack twice.
+#[derive(Drop)]
+struct Player<'s> {
+    plays: Plays,
+    label: &'s [u8],
+    out: Out,
+}
+
+impl<'s> Player<'s> {
     // A reading call's line.
-    fn read(&mut self, call: Reading) -> io::Result<()> {
-        let label = self.label;
-        write!(self.out, "{label}: {call} ->")?;
-        reads::call(self.out, call, &self.store)?;
-        writeln!(self.out)
+    fn read(&mut self, store: &Store, call: Reading) {
+        self.out.bytes(self.label);
+        self.out.print(format_args!(": {call} ->"));
+        reads::call(&mut self.out, call, store);
     }
 
     // A changing call's line.
-    fn change(&mut self, call: Changing) -> io::Result<()> {
-        let label = self.label;
-        write!(self.out, "{label}: {call} ->")?;
-        changes::call(self.out, call, &mut self.store)?;
-        writeln!(self.out)
+    fn change(&mut self, store: &mut Store, call: Changing) {
+        self.out.bytes(self.label);
+        self.out.print(format_args!(": {call} ->"));
+        changes::call(&mut self.out, call, store);
+    }
+
+    // Whether the program runs such a call over the store that was laid out.
+    fn runs(&self, store: &Store, call: Call) -> bool {
+        match self.plays {
+            Plays::Reads => matches!(call, Call::Read(_)),
+            Plays::All => store.has_room(),
+        }
     }
 
     // A call's line, or the lines of what is printed of the store.
-    fn call(&mut self, call: Call) -> io::Result<()> {
+    fn call(&mut self, store: &mut Store, call: Call) {
+        if !self.runs(store, call) {
+            return;
+        }
         match call {
-            Call::Read(reading) => self.read(reading),
-            Call::Change(changing) => self.change(changing),
-            Call::Print(printing) => dump::call(self.out, self.label, printing, &self.store),
+            Call::Read(reading) => self.read(store, reading),
+            Call::Change(changing) => self.change(store, changing),
+            Call::Print(printing) => dump::call(&mut self.out, self.label, printing, store),
         }
     }
 
     // Calls, one after the other.
-    fn call_all(&mut self, calls: &[Call]) -> io::Result<()> {
+    fn call_all(&mut self, store: &mut Store, calls: &[Call]) {
         for call in calls {
-            self.call(*call)?;
+            self.call(store, *call);
         }
-        Ok(())
     }
 
     // The calls of a round.
-    fn round(&mut self, round: Round) -> io::Result<()> {
+    fn round(&mut self, store: &mut Store, round: Round) {
         match round {
-            Round::Beyond(root) => self.call_all(&rounds::beyond(root)),
-            Round::Reading(root) => self.call_all(&rounds::reading(root)),
+            Round::Beyond(root) => self.call_all(store, &rounds::beyond(root)),
+            Round::Reading(root) => self.call_all(store, &rounds::reading(root)),
             Round::ReadingAndAudit(root) => {
-                self.call_all(&rounds::reading(root))?;
-                self.read(Reading::Audit)
+                self.call_all(store, &rounds::reading(root));
+                self.call(store, Call::Read(Reading::Audit));
             }
-            Round::Changing(root) => self.call_all(&rounds::changing(root)),
+            Round::Changing(root) => self.call_all(store, &rounds::changing(root)),
             Round::CreateAndChanging(root) => {
-                self.change(Changing::Create)?;
-                self.call_all(&rounds::changing(root))
+                self.call(store, Call::Change(Changing::Create));
+                self.call_all(store, &rounds::changing(root));
             }
         }
     }
 
     // A command lays something out, or is carried out over the store that was.
-    fn carry_out(&mut self, command: Command) -> io::Result<()> {
+    fn carry_out(&mut self, store: &mut Store, command: Command) {
         match command {
-            Command::Lay(layout) => Ok(self.store.lay(layout)?),
-            Command::Call(call) => self.call(call),
-            Command::Round(round) => self.round(round),
+            Command::Lay(layout) => store.lay(layout),
+            Command::Call(call) => self.call(store, call),
+            Command::Round(round) => self.round(store, round),
         }
+        self.out.flush();
     }
 
-    // A line is a label, a comment, or commands with two spaces between them; what is no command is left out.
-    fn line(&mut self, line: &'s str) -> io::Result<()> {
-        if let Some(label) = line.strip_prefix("= ") {
-            self.label = label;
-        } else if !line.starts_with('#') {
-            for command in line.split("  ").filter_map(Command::parse) {
-                self.carry_out(command)?;
+    // Each turn takes a byte of the script or more.
+    fn play(&mut self, store: &mut Store, script: &'s [u8]) {
+        let mut rest = script;
+        for _ in 0..script.len() {
+            let Some((step, behind)) = text::next(rest) else {
+                break;
+            };
+            match step {
+                Step::Label(label) => self.label = label,
+                Step::Command(command) => self.carry_out(store, command),
+                Step::Nothing => {}
             }
+            rest = behind;
         }
-        Ok(())
     }
 }
 
-// Plays a script: each call is one printed line.
-fn play_text<W: Write>(alloc: Global, text: &str, out: &mut W) -> io::Result<()> {
+// Plays the script that is the input, or the first 65,536 bytes of it: what a program of test vectors does. Each call is one printed line. Before the
+// first label a line begins with the script's own first line.
+pub fn play(plays: Plays) {
+    let mut buffer = io::large_buffer();
+    let count = io::read_full(0, &mut buffer);
+    let script = &buffer[..count];
+    let mut store = Store::new();
     let mut player = Player {
-        store: Store::new(alloc),
-        label: "",
-        out,
+        plays,
+        label: text::line(script),
+        out: Out::new(),
     };
-    for line in text.lines() {
-        player.line(line)?;
-    }
-    Ok(())
-}
-
-// Plays the script that is the input: what a program of test vectors does.
-pub fn play<R: Input + Print + AllocGlobal>(rt: &R) -> io::Result<()> {
-    let text = io::read_to_string(rt.alloc(), rt.reader())?;
-    let mut out = BufWriter::new(rt.alloc(), io::writer(rt))?;
-    play_text(rt.alloc(), text.as_str(), &mut out)?;
-    out.flush()
+    player.play(&mut store, script);
 }

@@ -1,7 +1,7 @@
 // The parts of a printed line that follow its call: the refusal's number (0 for none), its slot (- for none), values.
+use crate::out::Out;
 use meaning::Refusal;
-use std::fmt;
-use std::io::{self, Write};
+use std::fmt::{self, Write};
 
 // Bytes in hex, between brackets.
 #[derive(Clone, Copy, Drop)]
@@ -18,19 +18,19 @@ impl fmt::Display for Hex<'_> {
 }
 
 // A call that is not refused.
-pub fn passed<W: Write>(out: &mut W) -> io::Result<()> {
-    write!(out, " 0 -")
+pub fn passed(out: &mut Out) {
+    out.print(" 0 -");
 }
 
 // A refusal's number and the slot that it names.
-pub fn refusal<W: Write>(out: &mut W, number: u64, slot: Option<u64>) -> io::Result<()> {
+pub fn refusal(out: &mut Out, number: u64, slot: Option<u64>) {
     match slot {
-        None => write!(out, " {number} -"),
-        Some(slot) => write!(out, " {number} {slot}"),
+        None => out.print(format_args!(" {number} -")),
+        Some(slot) => out.print(format_args!(" {number} {slot}")),
     }
 }
 
 // A call that is refused.
-pub fn refused<W: Write>(out: &mut W, r: Refusal) -> io::Result<()> {
-    refusal(out, r.reason.number(), r.named)
+pub fn refused(out: &mut Out, r: Refusal) {
+    refusal(out, r.reason.number(), r.named);
 }

@@ -1,11 +1,19 @@
 // For the programs of test vectors: one block, record or byte laid out, as document 01 has it: nothing here uses the code that is
 // tried. What lies outside a slice is left out.
+use crate::store::SLOTS;
 
 // Bytes from a place on.
 fn put(bytes: &mut [u8], at: usize, values: &[u8]) {
-    for (byte, value) in bytes.iter_mut().skip(at).zip(values) {
-        *byte = *value;
+    if let Some(rest) = bytes.get_mut(at..) {
+        for (byte, value) in rest.iter_mut().zip(values) {
+            *byte = *value;
+        }
     }
+}
+
+// Where a slot's bytes start, `width` of them a slot: no slot lies past the first that no store has.
+fn start(slot: u64, width: usize) -> usize {
+    width.wrapping_mul(slot.min(SLOTS) as usize)
 }
 
 // A number modulo 256.
@@ -32,7 +40,7 @@ fn put_header(block: &mut [u8], own: u64, height: u64, count: u64, version: u64)
 
 // A leaf, whose data byte i is 64 times its own slot, plus i, modulo 256.
 pub fn leaf(pool: &mut [u8], place: u64, own: u64, count: u64, version: u64) {
-    if let Some(block) = pool.chunks_mut(64).nth(place as usize) {
+    if let Some(block) = pool.get_mut(start(place, 64)..) {
         put_header(block, own, 0, count, version);
         let first = own.wrapping_mul(64);
         for (i, byte) in (0..count.min(48)).zip(block.iter_mut().skip(16)) {
@@ -43,7 +51,7 @@ pub fn leaf(pool: &mut [u8], place: u64, own: u64, count: u64, version: u64) {
 
 // An inner block, whose children are the slots from `first` on.
 pub fn inner(pool: &mut [u8], slot: u64, height: u64, count: u64, version: u64, first: u64) {
-    if let Some(block) = pool.chunks_mut(64).nth(slot as usize) {
+    if let Some(block) = pool.get_mut(start(slot, 64)..) {
         put_header(block, slot, height, count, version);
         for (i, child) in (0..count.min(12)).zip(block.chunks_mut(4).skip(4)) {
             put_slot(child, 0, first.wrapping_add(i));
@@ -53,7 +61,7 @@ pub fn inner(pool: &mut [u8], slot: u64, height: u64, count: u64, version: u64, 
 
 // A record: state 0 free, 1 part, 2 root.
 pub fn record(records: &mut [u8], slot: u64, state: u64, version: u64) {
-    if let Some(record) = records.chunks_mut(12).nth(slot as usize) {
+    if let Some(record) = records.get_mut(start(slot, 12)..) {
         put(record, 0, &[b'R', b'1', low(state), 0]);
         put(record, 4, &version.to_le_bytes());
     }

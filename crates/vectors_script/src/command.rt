@@ -108,22 +108,22 @@ pub enum Command {
 
 impl Reading {
     // The reading call of that letter.
-    fn named(name: &str, numbers: [u64; 5]) -> Option<Reading> {
+    fn named(name: u8, numbers: [u64; 5]) -> Option<Reading> {
         let [root, b, c, d, e] = numbers;
         match name {
-            "L" => Some(Reading::Length { root }),
-            "R" => Some(Reading::Read {
+            b'L' => Some(Reading::Length { root }),
+            b'R' => Some(Reading::Read {
                 root,
                 offset: b,
                 size: c,
             }),
-            "F" => Some(Reading::Find { root, leaf: b }),
-            "S" => Some(Reading::Show { root, leaf: b }),
-            "P" => Some(Reading::Head {
+            b'F' => Some(Reading::Find { root, leaf: b }),
+            b'S' => Some(Reading::Show { root, leaf: b }),
+            b'P' => Some(Reading::Head {
                 root,
                 sizes: [b, c, d, e],
             }),
-            "A" => Some(Reading::Audit),
+            b'A' => Some(Reading::Audit),
             _ => None,
         }
     }
@@ -131,19 +131,19 @@ impl Reading {
 
 impl Changing {
     // The changing call of that letter.
-    fn named(name: &str, numbers: [u64; 5]) -> Option<Changing> {
+    fn named(name: u8, numbers: [u64; 5]) -> Option<Changing> {
         let [root, b, c, d, _] = numbers;
         match name {
-            "O" => Some(Changing::Wipe),
-            "N" => Some(Changing::Create),
-            "W" => Some(Changing::Write {
+            b'O' => Some(Changing::Wipe),
+            b'N' => Some(Changing::Create),
+            b'W' => Some(Changing::Write {
                 root,
                 offset: b,
                 first: c,
                 count: d,
             }),
-            "Z" => Some(Changing::Resize { root, len: b }),
-            "D" => Some(Changing::Delete { root }),
+            b'Z' => Some(Changing::Resize { root, len: b }),
+            b'D' => Some(Changing::Delete { root }),
             _ => None,
         }
     }
@@ -151,12 +151,12 @@ impl Changing {
 
 impl Printing {
     // What that letter prints.
-    fn named(name: &str, numbers: [u64; 5]) -> Option<Printing> {
+    fn named(name: u8, numbers: [u64; 5]) -> Option<Printing> {
         let [slot, _, _, _, _] = numbers;
         match name {
-            "H" => Some(Printing::Hex),
-            "T" => Some(Printing::Slot(slot)),
-            "G" => Some(Printing::Sums),
+            b'H' => Some(Printing::Hex),
+            b'T' => Some(Printing::Slot(slot)),
+            b'G' => Some(Printing::Sums),
             _ => None,
         }
     }
@@ -164,14 +164,14 @@ impl Printing {
 
 impl Round {
     // The round of that letter.
-    fn named(name: &str, numbers: [u64; 5]) -> Option<Round> {
+    fn named(name: u8, numbers: [u64; 5]) -> Option<Round> {
         let [root, _, _, _, _] = numbers;
         match name {
-            "B" => Some(Round::Beyond(root)),
-            "C" => Some(Round::Reading(root)),
-            "E" => Some(Round::ReadingAndAudit(root)),
-            "Y" => Some(Round::Changing(root)),
-            "X" => Some(Round::CreateAndChanging(root)),
+            b'B' => Some(Round::Beyond(root)),
+            b'C' => Some(Round::Reading(root)),
+            b'E' => Some(Round::ReadingAndAudit(root)),
+            b'Y' => Some(Round::Changing(root)),
+            b'X' => Some(Round::CreateAndChanging(root)),
             _ => None,
         }
     }
@@ -179,35 +179,35 @@ impl Round {
 
 impl Layout {
     // What that letter lays out.
-    fn named(name: &str, numbers: [u64; 5]) -> Option<Layout> {
+    fn named(name: u8, numbers: [u64; 5]) -> Option<Layout> {
         let [a, b, c, d, e] = numbers;
         match name {
-            "n" => Some(Layout::Wiped {
+            b'n' => Some(Layout::Wiped {
                 pool: a,
                 records: b,
             }),
-            "w" => Some(Layout::Pair),
-            "l" => Some(Layout::Leaf {
+            b'w' => Some(Layout::Pair),
+            b'l' => Some(Layout::Leaf {
                 place: a,
                 own: b,
                 count: c,
                 version: d,
             }),
-            "i" => Some(Layout::Inner {
+            b'i' => Some(Layout::Inner {
                 slot: a,
                 height: b,
                 count: c,
                 version: d,
                 first: e,
             }),
-            "v" => Some(Layout::Leaves { first: a, end: b }),
-            "k" => Some(Layout::Record {
+            b'v' => Some(Layout::Leaves { first: a, end: b }),
+            b'k' => Some(Layout::Record {
                 slot: a,
                 state: b,
                 version: c,
             }),
-            "p" => Some(Layout::PoolByte { at: a, value: b }),
-            "q" => Some(Layout::RecordsByte { at: a, value: b }),
+            b'p' => Some(Layout::PoolByte { at: a, value: b }),
+            b'q' => Some(Layout::RecordsByte { at: a, value: b }),
             _ => None,
         }
     }
@@ -215,7 +215,7 @@ impl Layout {
 
 impl Command {
     // The command of that letter, if there is one.
-    fn named(name: &str, numbers: [u64; 5]) -> Option<Command> {
+    pub fn named(name: u8, numbers: [u64; 5]) -> Option<Command> {
         if let Some(layout) = Layout::named(name, numbers) {
             return Some(Command::Lay(layout));
         }
@@ -229,17 +229,6 @@ impl Command {
             return Some(Command::Call(Call::Print(call)));
         }
         Round::named(name, numbers).map(Command::Round)
-    }
-
-    // A command as the script has it: its letter, and its numbers, 0 for those that are not there.
-    pub fn parse(text: &str) -> Option<Command> {
-        let mut words = text.split_ascii_whitespace();
-        let name = words.next()?;
-        let mut numbers = [0u64; 5];
-        for (number, word) in numbers.iter_mut().zip(words) {
-            *number = word.parse().unwrap_or(0);
-        }
-        Command::named(name, numbers)
     }
 }
 

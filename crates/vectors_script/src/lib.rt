@@ -5,3 +5,4 @@ pub mod block;
 pub mod command;
 pub mod rounds;
 pub mod store;
+pub mod text;

@@ -7,12 +7,12 @@ use native.Mathlib.Omega.{arith}
 use borrow.Author.Tests.{eq-eqb, ne_eqb, eqb-true, eqb-false}
 use lib.Dec.{eqb}
 use lib.ListN.{length, take, drop, length-drop, take-append-drop}
-use lib.Seq.{take-add}
+use lib.Seq.{take-add, drop-drop}
 use Rattle.std.specs.Prelude.{◌==◌}
 use Rattle.std.specs.List.{list_all}
 use Rattle.std.specs.Int.{w64, from_le_bytes}
 use Rattle.std.specs.Simd.{first_chunks}
-use Rattle.meaning.specs.Lists.{both, all, number, zeros}
+use Rattle.meaning.specs.Lists.{both, all, part, number, zeros}
 use Rattle.laws.proofs.Inversions.{by_test}
 use Rattle.base_bytes.proofs.number.LittleEndian.{number_eight}
 
@@ -98,3 +98,20 @@ module _ (l : List ℕ) (r : Bool) (ran : r ≡ list_all zeros (first_chunks 8 (
   pub eights_passed : r ≡ true → (t : Bool) → t ≡ list_all (λ (b : ℕ). b == 0) (drop (length l / 8 * 8) l) → t ≡ zeros l
   unfolding both
   eights_passed e t after = after ∙ all_zeros (drop (length l / 8 * 8) l) ∙ sym (split ∙ rw e refl)
+
+-- whether all are zero, where those before i are, and x is the number in the eight from i on
+module _ (l : List ℕ) (i : ℕ) (inv : zeros l ≡ zeros (drop i l)) (x : ℕ) (ex : x ≡ number (part i 8 l)) where
+  from_there : zeros l ≡ both (zeros (part i 8 l)) (zeros (drop (i + 8) l))
+  unfolding part
+  from_there =
+      inv ∙ ap zeros (sym (take-append-drop 8 (drop i l)))
+      ∙ both_zeros (take 8 (drop i l)) (drop 8 (drop i l))
+      ∙ ap (λ (r : List ℕ). both (zeros (take 8 (drop i l))) (zeros r)) (drop-drop 8 i l)
+
+  pub eight_stop : (x ≡ 0 → ⊥) → false ≡ zeros l
+  unfolding both
+  eight_stop n = sym (from_there ∙ rw (some_number (part i 8 l) (λ z. n (ex ∙ z))))
+
+  pub eight_more : x ≡ 0 → zeros l ≡ zeros (drop (i + 8) l)
+  unfolding both
+  eight_more z = from_there ∙ rw (zero_number (part i 8 l) (sym ex ∙ z))

@@ -95,6 +95,11 @@ pub list_start : (R row : List ℕ) (n : ℕ) → usable_from R 0 n ≡ take 0 r
 unfolding usable_from
 list_start R row n = rw (left_all n) refl
 
+picked_list : (t u : Bool) (x : ℕ) (l : List ℕ) → t ≡ u → pick u (x ∷ l) l ≡ pick t (x ∷ []) [] ++ l
+unfolding pick
+picked_list true u x l e = rw (← e)
+picked_list false u x l e = rw (← e)
+
 module _ (R row : List ℕ) (n i k : ℕ) (inv : usable_from R 0 n ≡ take k row ++ usable_from R i (n - i)) where
   pub list_end : n ≤ i → take k row ≡ usable_from R 0 n
   list_end l = sym (inv ∙ ap (λ (m : List ℕ). take k row ++ m) (from_none R i n l) ∙ append-nil (take k row))
@@ -110,6 +115,14 @@ module _ (R row : List ℕ) (n i k : ℕ) (inv : usable_from R 0 n ≡ take k ro
     pub list_passed : t ≡ false → usable_from R 0 n ≡ take k row ++ usable_from R (i + 1) (n - (i + 1))
     unfolding pick
     list_passed p = inv ∙ ap (λ (m : List ℕ). take k row ++ m) (rw (from_step R i n l, ← et, p) refl)
+
+  -- either way: whatever the row and its end are then, if the front got slot i, or nothing, as the test says
+  pub list_more : i < n → (t : Bool) → t ≡ usable_slot R i → (k' : ℕ) (row' : List ℕ) → take k' row' ≡ take k row ++ pick t (i ∷ []) []
+      → usable_from R 0 n ≡ take k' row' ++ usable_from R (i + 1) (n - (i + 1))
+  list_more l t et k' row' a =
+      inv ∙ ap (λ (m : List ℕ). take k row ++ m) (from_step R i n l ∙ picked_list t (usable_slot R i) i (usable_from R (i + 1) (n - (i + 1))) et)
+      ∙ sym (append_assoc (take k row) (pick t (i ∷ []) []) (usable_from R (i + 1) (n - (i + 1))))
+      ∙ ap (λ (m : List ℕ). m ++ usable_from R (i + 1) (n - (i + 1))) (sym a)
 
 -- the k-th of a list, and of none the number past every pool
 inside_same : (l : List ℕ) (k a b : ℕ) → k < length l → get_or l k a ≡ get_or l k b

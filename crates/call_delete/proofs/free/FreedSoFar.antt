@@ -50,6 +50,9 @@ module _ (e : Edition) (n : ℕ) (heights P₀ R₀ : List ℕ) (i : ℕ) (P R :
   unfolding clear_plan
   plan_single s = pick_single e s _ _ _ (inl refl) (freed_single e R₀ s)
 
+  pub clear_whole : Whole e n P₀ R₀ → Whole e n P R
+  clear_whole w = record { pool = t.pool_long ∙ w.pool; records = t.records_long ∙ w.records; some = w.some; few = w.few }
+
   pub clear_turn : Whole e n P₀ R₀ → i < n → (P' R' : List ℕ) → P' ≡ puts e.size (λ c. c.block) (clear_plan e R heights i) P
       → R' ≡ puts 12 (λ c. c.line) (clear_plan e R heights i) R → Turning e n (clear_plan e R₀ heights) P₀ R₀ (i + 1) P' R'
   clear_turn w l P' R' ep er =

@@ -4,7 +4,7 @@ use mathlib.Core.Path.{◌≡◌, refl, ap, ◌∙◌, sym}
 use mathlib.Core.Bool.{Bool}
 use mathlib.Core.List.{List}
 use mathlib.Core.Logic.{inl}
-use Prim.Native.Nat.{ℕ, ◌+◌, ◌<◌}
+use Prim.Native.Nat.{ℕ, ◌+◌, ◌*◌, ◌≤◌, ◌<◌}
 use native.Mathlib.Nat.{zero-add}
 use native.Mathlib.Omega.{arith}
 use lib.ListN.{length, length-append}
@@ -13,6 +13,7 @@ use Rattle.meaning.specs.Lists.{pick, range, filter}
 use Rattle.meaning.specs.Bytes.{state, recorded, usable_slot}
 use Rattle.meaning.specs.Change.{Change, puts, renewed}
 use Rattle.laws_resize.specs.growth.HeldAfter.{usable_below}
+use Rattle.check_blob.proofs.visit.VisitAsDefined.{slot_fits}
 use Rattle.check_gate.specs.Gate.{Whole}
 use Rattle.plan_slot.specs.change.Places.{Places}
 use Rattle.plan_slot.specs.change.Turns.{Turning}
@@ -104,6 +105,9 @@ module _ (e : Edition) (g : Growth) (t : Tower) (P₀ R₀ free hs fs kept : Lis
           version = λ some. omega (arith, h.version some, version_as);
           root_version = λ q. omega (arith, h.root_version q, version_as);
         }
+
+    pub line_now : Whole e n P₀ R₀ → i < n → 12 * i + 12 ≤ length R
+    line_now w l = slot_fits 12 n i R (u.records_long ∙ w.records) l
 
     -- and the next one
     pub grow_turn : Whole e n P₀ R₀ → i < n → (below : ℕ) → below ≡ usable_below R₀ i → (P' R' : List ℕ)

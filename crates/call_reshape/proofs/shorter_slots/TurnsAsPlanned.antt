@@ -1,16 +1,19 @@
 -- The loops over the slots: a slot's turn is planned from pool and records as they were, since from slot i on they still are.
-use mathlib.Core.Path.{◌≡◌, refl}
+use mathlib.Core.Path.{◌≡◌, refl, ◌∙◌}
 use mathlib.Core.Logic.{inl}
 use mathlib.Core.List.{List}
-use Prim.Native.Nat.{ℕ, ◌+◌, ◌≤◌, ◌<◌}
+use Prim.Native.Nat.{ℕ, ◌+◌, ◌^◌, ◌≤◌, ◌<◌}
 use native.Mathlib.Omega.{arith}
 use lib.ListN.{length, get_or}
 use Rattle.meaning.specs.declared.Edition.{Edition}
+use Rattle.meaning.specs.Edition.{Proper}
 use Rattle.meaning.specs.Bytes.{block, state, recorded, record_at, last_version}
 use Rattle.meaning.specs.Change.{Change, puts, freed, renewed}
+use Rattle.check_blob.proofs.visit.VisitAsDefined.{slot_fits}
 use Rattle.check_gate.specs.Gate.{Whole}
 use Rattle.plan_slot.specs.declared.turn.Turn.{Turn}
 use Rattle.plan_slot.specs.turn.{turned, Rises}
+use Rattle.plan_slot.specs.change.Places.{Places}
 use Rattle.plan_slot.specs.change.Turns.{Turning}
 use Rattle.plan_slot.proofs.change.SlotLoop.{block_left, record_left, turning_on}
 use Rattle.plan_slot.specs.renewal.{renewal}
@@ -58,6 +61,14 @@ module _ (e : Edition) (n : ℕ) (c : Cut) (hs fs kept : List ℕ) (root : ℕ) 
         most = λ noted. rw same_block (here.most noted);
       }
 
+  -- and its turn carried out
+  pub turn_places : Whole e n P₀ R₀ → (scratch : List ℕ) → length scratch ≡ e.size → Places e P R scratch i
+  turn_places w scratch size = record {
+    block = slot_fits e.size n i P (t.pool_long ∙ w.pool) less;
+    line = slot_fits 12 n i R (t.records_long ∙ w.records) less;
+    scratch = size;
+  }
+
   -- and its version may rise
   pub turn_fresh : ((s : ℕ) → s < n → (get_or hs s 0 ≡ 0 → ⊥) → recorded R₀ s < last_version) → (get_or hs i 0 ≡ 0 → ⊥) → recorded R i < last_version
   unfolding recorded
@@ -69,6 +80,10 @@ module _ (e : Edition) (n : ℕ) (c : Cut) (hs fs kept : List ℕ) (root : ℕ) 
   turn_done w P' R' ep er =
       let now = plan_same e c hs fs kept root P R P₀ R₀ i same_block same_record in
       turning_on e n plan P₀ R₀ i P R t less w.pool w.records (plan_single e c hs fs kept root P₀ R₀ i) P' R' (rw now at ep) (rw now at er)
+
+-- a slot has a number of four bytes
+pub turn_small : (e : Edition) (n : ℕ) (P R : List ℕ) → Proper e → Whole e n P R → (i : ℕ) → i < n → i < 2 ^ 32
+turn_small e n P R p w i less = omega (arith, w.few, p.small)
 
 -- the drawn payload is as long as a payload, and a version may rise
 pub carry_payload : (e : Edition) (x x' : List ℕ) → length x ≡ e.leaf → length x' ≡ length x → length x' ≤ e.leaf

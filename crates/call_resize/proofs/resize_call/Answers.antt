@@ -2,23 +2,22 @@
 use Rattle.check_survey.proofs.BehindTheSurvey.{noted_row, noted_heights, noted_firsts}
 use Rattle.call_resize.proofs.ReachedDecides.{resize_refused, resize_whole, resize_found, resize_row, resize_ends}
 use Rattle.call_resize.proofs.resize_call.Goals as goal
-use Rattle.laws.proofs.HandedOn.{handed}
 
 pub slice_bounds-resize_found-end : goal.slice_bounds-resize_found-end
 slice_bounds-resize_found-end c =
-    noted_row _ _ _ _ _ _ _ _ c.reach.ensures _ c.in_ok-reached.was _ _ _ _ c.requires.rows c.row-1.given
+    noted_row _ _ _ _ _ _ _ _ c.reach.ensures _ c.in-Ok.is _ _ _ _ c.requires.rows c.row-1.given
 
 pub slice_bounds-notes-end : goal.slice_bounds-notes-end
 slice_bounds-notes-end c =
-    noted_heights _ _ _ _ _ _ _ _ c.reach.ensures _ c.in_ok-reached.was
+    noted_heights _ _ _ _ _ _ _ _ c.reach.ensures _ c.in-Ok.is
 
-pub slice_bounds-notes-end-2 : goal.slice_bounds-notes-end-2
-slice_bounds-notes-end-2 c =
-    noted_firsts _ _ _ _ _ _ _ _ c.reach.ensures _ c.in_ok-reached.was
+pub slice_bounds-notes-end-in-Ok : goal.slice_bounds-notes-end-in-Ok
+slice_bounds-notes-end-in-Ok c =
+    noted_firsts _ _ _ _ _ _ _ _ c.reach.ensures _ c.in-Ok.is
 
 pub resize_found-requires : goal.resize_found-requires
 resize_found-requires c =
-    let reached = c.in_ok-reached.was in record {
+    let reached = c.in-Ok.is in record {
       proper = c.requires.proper;
       whole = resize_whole _ _ _ _ _ _ _ _ c.reach.ensures _ reached;
       found = resize_found _ _ _ _ _ _ _ _ c.reach.ensures _ reached;
@@ -26,9 +25,10 @@ resize_found-requires c =
       row_len = resize_row _ _ _ _ _ _ _ _ c.reach.ensures _ reached _ _ _ _ c.requires.rows c.row-1.given;
     }
 
-pub returns-in_err-reached : goal.returns-in_err-reached
-returns-in_err-reached c = rw (handed c.from_residual.ensures.1) (search (resize_refused, c.in_err-reached.was))
+pub returns-in-Err : goal.returns-in-Err
+returns-in-Err c =
+    resize_refused _ _ _ _ _ _ _ _ c.reach.ensures _ c.in-Err.is _
 
-pub returns : goal.returns
-returns c =
-    resize_ends _ _ _ _ _ _ _ _ c.reach.ensures _ c.in_ok-reached.was _ _ _ _ c.resize_found.ensures
+pub returns-in-Ok : goal.returns-in-Ok
+returns-in-Ok c =
+    resize_ends _ _ _ _ _ _ _ _ c.reach.ensures _ c.in-Ok.is _ _ _ _ c.resize_found.ensures

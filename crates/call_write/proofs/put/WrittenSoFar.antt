@@ -3,7 +3,8 @@ use Rattle.std.specs.Prelude.{Err, Ok}
 use mathlib.Core.Path.{◌≡◌, refl, ◌∙◌}
 use mathlib.Core.List.{List}
 use mathlib.Core.Logic.{inl}
-use Prim.Native.Nat.{ℕ, ◌+◌, ◌<◌}
+use Prim.Native.Nat.{ℕ, ◌+◌, ◌*◌, ◌≤◌, ◌<◌}
+use native.Mathlib.Omega.{arith}
 use lib.ListN.{length}
 use Rattle.meaning.specs.declared.Edition.{Edition}
 use Rattle.meaning.specs.declared.Refusal.{Refusal}
@@ -14,11 +15,12 @@ use Rattle.meaning.specs.Calls.{after}
 use Rattle.meaning.specs.Answers.{answer_of, Ends}
 use Rattle.laws.proofs.Puts.{Single, renewed_single}
 use Rattle.check_gate.specs.Gate.{Whole, through}
+use Rattle.check_blob.proofs.visit.VisitAsDefined.{slot_fits}
 use Rattle.plan_slot.specs.change.Turns.{over, Turning}
 use Rattle.plan_slot.proofs.change.SlotLoop.{block_left, record_left, turning_on}
 use Rattle.std.specs.Prelude.{Option, None, Some}
 use Rattle.plan_write.specs.declared.stretch.Stretch.{Stretch}
-use Rattle.plan_write.specs.stretch.{plan_of, put_by, write_plan, Writable}
+use Rattle.plan_write.specs.stretch.{plan_of, put_by, write_plan, Place, Writable}
 use Rattle.plan_write.specs.rewriting.{Unworn}
 use Rattle.check_survey.specs.refusal.{write_barred}
 use Rattle.check_survey.proofs.refusal.BarredByTests.{write_fresh}
@@ -55,6 +57,16 @@ module _ (e : Edition) (n : ℕ) (hs fs d : List ℕ) (offset : ℕ) (P₀ R₀ 
   plan_single s = put_single s _
 
   module _ (w : Whole e n P₀ R₀) (l : i < n) where
+    pub turn_record : 12 * i + 12 ≤ length R
+    turn_record = slot_fits 12 n i R (t.records_long ∙ w.records) l
+
+    pub turn_place : Leaves e n P₀ R₀ hs fs → Place e P hs fs i
+    turn_place v = record {
+      block = slot_fits e.size n i P (t.pool_long ∙ w.pool) l;
+      heights = omega (arith, v.heights);
+      firsts = omega (arith, v.firsts);
+    }
+
     pub turn_writable : Leaves e n P₀ R₀ hs fs → Writable e P R hs i
     unfolding recorded
     turn_writable v = record {

@@ -4,7 +4,7 @@ use mathlib.Core.Bool.{Bool, false, not}
 use mathlib.Core.List.{List, [], ◌∷◌}
 use Prim.Native.Nat.{ℕ, ◌<◌}
 use native.Mathlib.Omega.{arith}
-use borrow.Author.Tests.{ne_eqb, lt-ltb, le-ltb, eqb-true, eqb-false, not-true, not-false}
+use borrow.Author.Tests.{eq-eqb, ne_eqb, lt-ltb, le-ltb, eqb-true, eqb-false, not-true, not-false}
 use lib.Dec.{eqb, ltb}
 use lib.ListN.{get_or}
 use Rattle.std.specs.List.{list_any, range_with_len}
@@ -15,8 +15,12 @@ use Rattle.base_slot.proofs.usable.UsableInOrder.{numbers_same}
 use Rattle.laws.proofs.Codec.{version_is}
 use Rattle.check_survey.specs.worn.{fresh_slot, fresh_from, worn_among}
 
--- one slot of the blob: by its version, which is at most the last
+-- one slot: none of the blob, or by its version, which is at most the last
 module _ (R hs : List ℕ) (s : ℕ) where
+  pub slot_other : get_or hs s 0 ≡ 0 → false ≡ not (fresh_slot R hs s)
+  unfolding fresh_slot pick
+  slot_other z = rw (eq-eqb (get_or hs s 0) 0 z)
+
   last_or_less : (v : ℕ) → v < 0x1_0000_0000_0000_0000 → eqb v 0xFFFF_FFFF_FFFF_FFFF ≡ not (ltb v 0xFFFF_FFFF_FFFF_FFFF)
   last_or_less v l =
       by_test (eqb v 0xFFFF_FFFF_FFFF_FFFF)

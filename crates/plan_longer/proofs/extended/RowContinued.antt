@@ -24,6 +24,15 @@ use Rattle.plan_slot.proofs.payload.Cells.{drawn_inner, drawn_leaf, children_cou
 pub copied_long : (m : ℕ) (x₀ x new : List ℕ) → length x₀ ≡ m → x ≡ padded (length x₀) new → length x ≡ m
 copied_long m x₀ x new long is = ap length is ∙ padded_length (length x₀) new ∙ long
 
+-- the new children beside old ones, with the numbers that code has
+pub many_beside : (fan m c h n r k : ℕ) → r ≡ room fan h n → k ≡ places fan m c h r → k ≡ places fan m c h (room fan h n)
+many_beside fan m c h n r k there many = cc
+
+pub put_beside : (fan h n at s c k : ℕ) (free x₀ x : List ℕ) → s ≡ bulk fan h → k ≡ space fan h n
+    → x ≡ pasted (4 * at) (joined (map (bytes 4) (every free s c k))) x₀
+    → x ≡ pasted (4 * at) (joined (map (bytes 4) (every free (bulk fan h) c (space fan h n)))) x₀
+put_beside fan h n at s c k free x₀ x step there is = cc
+
 module _ (e : Edition) (p : Proper e) where
   -- an old leaf, filled with zeros
   pub grown_leaf : (long first : ℕ) (b x₀ x : List ℕ) (r count : ℕ) → length x₀ ≡ e.leaf → length b ≡ e.size → count_of b ≤ share e long first

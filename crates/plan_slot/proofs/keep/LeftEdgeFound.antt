@@ -27,6 +27,9 @@ module _ (e : Edition) (P : List ℕ) (s : ℕ) where
     unfolding first_below
     below_next x ex = rw (add-one) (ex ∙ ap (λ (t : ℕ). number (part 16 4 (block e P t))) ea)
 
+    pub below_done : (steps : ℕ) → i ≤ steps → steps ≤ i → at ≡ first_below e P s steps
+    below_done steps low high = ea ∙ ap (first_below e P s) (let z : i ≡ steps = omega arith in z)
+
 -- a whole block is kept
 pub kept_block : (e : Edition) (P : List ℕ) (root : ℕ) (b kept kept' : List ℕ) → b ≡ block e P root → length b ≡ e.size → length kept ≡ e.size
     → kept' ≡ part 0 (length kept) b → kept' ≡ block e P root

@@ -33,3 +33,16 @@ start_small e p i h = omega (arith, p.byte, mul-le-mul_left e.leaf h)
 pub share_is : (e : Edition) (len i d r : ℕ) → d ≡ len - e.leaf * i → r ≡ min e.leaf d → r ≡ share e len i
 unfolding share
 share_is e len i d r left least = omega arith
+
+-- past the length, nothing; in the last leaf, what is left; else all that fits
+pub share_past : (e : Edition) (len i : ℕ) → len ≤ e.leaf * i → 0 ≡ share e len i
+unfolding share
+share_past e len i h = omega arith
+
+pub share_last : (e : Edition) (len i : ℕ) → e.leaf * i < len → len - e.leaf * i < e.leaf → len - e.leaf * i ≡ share e len i
+unfolding share
+share_last e len i h k = omega arith
+
+pub share_full : (e : Edition) (len i : ℕ) → e.leaf ≤ len - e.leaf * i → e.leaf ≡ share e len i
+unfolding share
+share_full e len i k = omega arith

@@ -1,9 +1,10 @@
 -- A turn, case by case: how many slots it changes, and what the comparison of heights and counts answers.
-use mathlib.Core.Path.{◌≡◌, refl, ◌∙◌}
+use mathlib.Core.Path.{◌≡◌, refl, ◌∙◌, sym}
 use mathlib.Core.Bool.{Bool, true, false, ◌&&◌}
 use mathlib.Core.List.{List}
 use Prim.Native.Nat.{ℕ, ◌≤◌}
 use native.Mathlib.Omega.{arith}
+use borrow.Author.Tests.{eq-eqb, ne_eqb}
 use lib.Dec.{eqb}
 use lib.ListN.{length}
 use Rattle.meaning.specs.Lists.{pick, both}
@@ -59,3 +60,20 @@ module _ (b : List ℕ) (d : Drawn) (h c : ℕ) (eh : h ≡ height_of b) (ec : c
   pub other_renews : q ≡ false → Renews d ≡ pick (both (eqb d.height (height_of b)) (eqb d.count (count_of b))) Stays (Renews d)
   unfolding pick
   other_renews t = rw (← compared, t)
+
+-- case by case: the heights differ, or the counts alone, or neither
+module _ (b : List ℕ) (d : Drawn) where
+  pub height_differs : (x : ℕ) → x ≡ height_of b → (d.height ≡ x → ⊥)
+      → Renews d ≡ pick (both (eqb d.height (height_of b)) (eqb d.count (count_of b))) Stays (Renews d)
+  unfolding pick both
+  height_differs x q n = rw (ne_eqb d.height (height_of b) (λ z. n (z ∙ sym q)))
+
+  pub count_differs : (x : ℕ) → x ≡ height_of b → d.height ≡ x → (y : ℕ) → y ≡ count_of b → (d.count ≡ y → ⊥)
+      → Renews d ≡ pick (both (eqb d.height (height_of b)) (eqb d.count (count_of b))) Stays (Renews d)
+  unfolding pick both
+  count_differs x q z y r n = rw (eq-eqb d.height (height_of b) (z ∙ q), ne_eqb d.count (count_of b) (λ w. n (w ∙ sym r)))
+
+  pub none_differs : (x : ℕ) → x ≡ height_of b → d.height ≡ x → (y : ℕ) → y ≡ count_of b → d.count ≡ y
+      → Stays ≡ pick (both (eqb d.height (height_of b)) (eqb d.count (count_of b))) Stays (Renews d)
+  unfolding pick both
+  none_differs x q z y r w = rw (eq-eqb d.height (height_of b) (z ∙ q), eq-eqb d.count (count_of b) (w ∙ r))

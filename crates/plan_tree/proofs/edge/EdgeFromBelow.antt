@@ -6,6 +6,7 @@ use native.Mathlib.Nat.{pow-zero, pow-succ', mul-le-mul_left, mul-le-mul_right, 
 use native.Mathlib.Omega.{arith}
 use Rattle.laws_resize.specs.growth.Forms.{bulk, last_children, room, space}
 use Rattle.plan_tree.specs.edge.{lacking, Lacking}
+use Rattle.plan_tree.proofs.subtrees.SubtreesFromBelow.{pow_rises, bulk_few}
 
 -- children of the right edge's block, from the power
 pub last_is : (fan h n w : ℕ) → w ≡ fan ^ h → (n - 1) / w % fan + 1 ≡ last_children fan h n
@@ -55,8 +56,41 @@ room_fits fan (suc h) n some =
     let z : fan ≡ suc (fan - 1) = omega arith in
     omega (arith, room_fits fan h n some, mul-le-mul_right (fan ^ h) few, pow-succ' fan h, ap (λ (x : ℕ). x * fan ^ h) z)
 
+pub room_none : (fan h n : ℕ) → h ≡ 0 → 0 ≡ room fan h n
+unfolding room
+room_none fan h n is = rw is refl
+
+pub room_next : (fan i n r c w : ℕ) → r ≡ room fan i n → c ≡ last_children fan i n → w ≡ fan ^ i → r + (fan - c) * w ≡ room fan (i + 1) n
+unfolding room
+room_next fan i n r c w at last wide = let z : i + 1 ≡ suc i = omega arith in rw (at, last, wide, z) refl
+
+-- up to height h no more than the leaves of a subtree of that height
+pub room_few : (fan i h n r : ℕ) → 1 ≤ fan → i ≤ h → r ≡ room fan i n → r ≤ fan ^ h
+room_few fan i h n r some low is = omega (arith, room_fits fan i n some, pow_rises fan i h some low)
+
 -- the blocks of those leaves: a subtree of height h has bulk h of them
 pub space_is : (fan h n : ℕ) → lacking fan (bulk fan) h n ≡ space fan h n
 unfolding space lacking
 space_is fan zero n = refl
 space_is fan (suc h) n = rw (space_is fan h n) refl
+
+pub space_none : (fan h n : ℕ) → h ≡ 0 → 0 ≡ space fan h n
+unfolding space
+space_none fan h n is = rw is refl
+
+pub space_next : (fan i n s c b : ℕ) → s ≡ space fan i n → c ≡ last_children fan i n → b ≡ bulk fan i → s + (fan - c) * b ≡ space fan (i + 1) n
+unfolding space
+space_next fan i n s c b at last whole = let z : i + 1 ≡ suc i = omega arith in rw (at, last, whole, z) refl
+
+space_fits : (fan h n : ℕ) → 1 ≤ fan → space fan h n ≤ bulk fan h
+unfolding space bulk
+space_fits fan zero n some = omega arith
+space_fits fan (suc h) n some =
+    let few : fan - last_children fan h n ≤ fan - 1 = omega (arith, last_some fan h n) in
+    let z : fan ≡ suc (fan - 1) = omega arith in
+    omega (arith, space_fits fan h n some, mul-le-mul_right (bulk fan h) few, ap (λ (x : ℕ). x * bulk fan h) z)
+
+-- up to height h they fit, if the leaves of a subtree of that height are few
+pub space_few : (fan i h n s : ℕ) → 2 ≤ fan → fan ^ h ≤ 2 ^ 50 → i ≤ h → s ≡ space fan i n → s ≤ 2 ^ 51
+space_few fan i h n s two small low is =
+    omega (arith, space_fits fan i n (omega arith), bulk_few fan i h (bulk fan i) two small low refl)

@@ -11,13 +11,16 @@ use Rattle.plan_tree.specs.declared.seats.Seat.{Seat}
 use Rattle.plan_tree.specs.seats.{Sits}
 
 -- the leaves of the full subtrees before block p, and no more than the blocks of the rest, are p or fewer
-pub share_fits : (fan h p size w f : ℕ) → 2 ≤ fan → size ≡ bulk fan h → w ≡ fan ^ h → f ≤ p % size → p / size * w + f ≤ p
-share_fits fan h p size w f two whole wide rest =
-    let low : w ≤ size = omega (arith, bulk_leaves fan h (omega arith)) in
+pub share_fits : (fan h p size w f : ℕ) → 1 ≤ fan → size ≡ bulk fan h → w ≡ fan ^ h → f ≤ p % size → p / size * w + f ≤ p
+share_fits fan h p size w f some whole wide rest =
+    let low : w ≤ size = omega (arith, bulk_leaves fan h some) in
     omega (arith, mul-le-mul_left (p / size) low, div-add-mod' p size)
 
+pub share_two : (fan h p size w f : ℕ) → 2 ≤ fan → size ≡ bulk fan h → w ≡ fan ^ h → f ≤ p % size → p / size * w + f ≤ p
+share_two fan h p size w f two = share_fits fan h p size w f (omega arith)
+
 pub share_of_left : (fan h left size w : ℕ) → 2 ≤ fan → size ≡ bulk fan h → w ≡ fan ^ h → left / size * w ≤ left
-share_of_left fan h left size w two whole wide = omega (arith, share_fits fan h left size w 0 two whole wide (omega arith))
+share_of_left fan h left size w two whole wide = omega (arith, share_two fan h left size w 0 two whole wide (omega arith))
 
 -- the definition's step down, from one height lower
 locate_back : (fan h p : ℕ) → 0 < h → (p ≡ 0 → ⊥) → locate fan h p ≡ (
@@ -57,13 +60,19 @@ nears_down fan h p height left first size w two nears tall more whole wide =
     }
 
 -- in the end the block is the top of its subtree, or a leaf
-pub sits_top : (fan h p height left first : ℕ) → Nears fan h p height left first → 0 < height → left ≡ 0
-    → Sits (record { height = height - 1 + 1; first = first }) (locate fan h p)
-sits_top fan h p height left first nears tall is =
-    let z : height - 1 + 1 ≡ height = omega arith in
+pub sits_top : (fan h p height left first : ℕ) → Nears fan h p height left first → left ≡ 0
+    → Sits (record { height = height; first = first }) (locate fan h p)
+sits_top fan h p height left first nears is =
     let e : locate fan height left ≡ (height, 0) = rw is (locate_top fan height) in
     let top : (locate fan height left).1 ≡ 0 = ap (λ (l : ℕ × ℕ). l.1) e in
-    record { height = z ∙ sym (nears.level ∙ ap (λ (l : ℕ × ℕ). l.0) e); first = omega (arith, nears.before, top) }
+    record { height = sym (nears.level ∙ ap (λ (l : ℕ × ℕ). l.0) e); first = omega (arith, nears.before, top) }
+
+pub sits_above : (fan h p height left first : ℕ) → Nears fan h p height left first → 0 < height → left ≡ 0
+    → Sits (record { height = height - 1 + 1; first = first }) (locate fan h p)
+sits_above fan h p height left first nears tall is =
+    let z : height - 1 + 1 ≡ height = omega arith in
+    let sits = sits_top fan h p height left first nears is in
+    record { height = z ∙ sits.height; first = sits.first }
 
 pub sits_leaf : (fan h p height left first : ℕ) → Nears fan h p height left first → height ≤ 0
     → Sits (record { height = 0; first = first }) (locate fan h p)

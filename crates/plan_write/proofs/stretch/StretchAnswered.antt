@@ -19,7 +19,7 @@ use Rattle.meaning.specs.Lists.{pick, both, part, same_list}
 use Rattle.meaning.specs.Edition.{Proper}
 use Rattle.meaning.specs.Bytes.{block, count_of}
 use Rattle.plan_write.specs.declared.stretch.Stretch.{Stretch}
-use Rattle.plan_write.specs.stretch.{touched_by, differing, plan_of, Changing}
+use Rattle.plan_write.specs.stretch.{touched_by, differing, plan_of, Changing, ChosenAt, Counted}
 use Rattle.std.specs.Prelude.{Option, None, Some}
 use Rattle.plan_write.proofs.stretch.Stretches.{fits_both}
 
@@ -99,14 +99,17 @@ module _ (e : Edition) (b d : List ℕ) (first offset base held : ℕ) (eb : bas
 
 -- the plan of a slot, by what is noted of it: it is none of the blob, or its block has that height
 module _ (e : Edition) (P hs fs d : List ℕ) (offset i : ℕ) where
-  pub plan_none : get_or hs i 0 ≡ 0 → None ≡ plan_of e P hs fs d offset i
+  -- no leaf of the blob, whatever is noted
+  pub plan_none : (get_or hs i 0 ≡ 1 → ⊥) → None ≡ plan_of e P hs fs d offset i
   unfolding plan_of pick
-  plan_none z = rw (ne_eqb (get_or hs i 0) 1 (λ q. omega (arith, z, q)))
+  plan_none n = rw (ne_eqb (get_or hs i 0) 1 n)
+
+  pub plan_outside : get_or hs i 0 ≡ 0 → None ≡ plan_of e P hs fs d offset i
+  plan_outside z = plan_none (λ q. omega (arith, z, q))
 
   module _ (h : ℕ) (noted : get_or hs i 0 ≡ 0 → ⊥) (eh : h ≡ get_or hs i 0 - 1) where
     pub plan_inner : (h ≡ 0 → ⊥) → None ≡ plan_of e P hs fs d offset i
-    unfolding plan_of pick
-    plan_inner n = rw (ne_eqb (get_or hs i 0) 1 (λ q. n (omega (arith, eh, q))))
+    plan_inner n = plan_none (λ q. n (omega (arith, eh, q)))
 
     pub plan_leaf : h ≡ 0 → (b : List ℕ) → b ≡ block e P i → (first : ℕ) → first ≡ get_or fs i 0 → (r : Option Stretch) → r ≡ differing e b d first offset
         → r ≡ plan_of e P hs fs d offset i
@@ -114,3 +117,10 @@ module _ (e : Edition) (P hs fs d : List ℕ) (offset i : ℕ) where
     plan_leaf z b eb first ef r er =
         let one : get_or hs i 0 ≡ 1 = by_test (eqb (get_or hs i 0) 0) (λ t. absurd (noted (eqb-true _ _ t))) (λ t. omega (arith, eh, z, eqb-false _ _ t)) in
         er ∙ rw (eb, ef, eq-eqb (get_or hs i 0) 1 one)
+
+  -- a leaf of the blob: what is known of its block's stretch is known of the slot's, and the block is not too full
+  pub plan_in : get_or hs i 0 ≡ 1 → (b : List ℕ) → b ≡ block e P i → (t : Stretch) → Changing b d t → ChosenAt e P hs d i t
+  plan_in q b eb t f = record { leaf = q; changing = rw (← eb) f }
+
+  pub plan_count : get_or hs i 0 ≡ 1 → (b : List ℕ) → b ≡ block e P i → Counted e P hs i → count_of b ≤ e.leaf
+  plan_count q b eb f = rw eb (f.so q)

@@ -1,7 +1,7 @@
 use native.Mathlib.Omega.{arith}
 use borrow.Author.Rules.{rules}
-use Rattle.plan_tree.proofs.subtrees.SubtreesFromBelow.{pow_small, bulk_some}
-use Rattle.plan_tree.proofs.seats.SeatsFromBelow.{nears_start, nears_down, share_of_left, sits_leaf, sits_top}
+use Rattle.plan_tree.proofs.subtrees.SubtreesFromBelow.{pow_small, bulk_two}
+use Rattle.plan_tree.proofs.seats.SeatsFromBelow.{nears_start, nears_down, share_of_left, sits_leaf, sits_above}
 use Rattle.plan_tree.proofs.seats.locate.Goals as goal
 
 pub loop-height-init : goal.loop-height-init
@@ -10,13 +10,13 @@ loop-height-init c = search nears_start
 pub returns-then-left-eq0 : goal.returns-then-left-eq0
 returns-then-left-eq0 c =
     let n = c.loop-height.invariant in
-    record { sits = search sits_top; first_le_p = omega (arith, n.low, n.few) }
+    record { sits = search sits_above; first_le_p = omega (arith, n.low, n.few) }
 
 pub bulk-size-requires : goal.bulk-size-requires
 bulk-size-requires c = search (rules, pow_small)
 
 pub nonzero_div-first : goal.nonzero_div-first
-nonzero_div-first c = search (rules, bulk_some)
+nonzero_div-first c = search (rules, bulk_two)
 
 pub power-requires : goal.power-requires
 power-requires c = search (rules, pow_small)
@@ -28,7 +28,7 @@ pub overflow_add-first : goal.overflow_add-first
 overflow_add-first c = grind (arith, share_of_left)
 
 pub nonzero_rem-left : goal.nonzero_rem-left
-nonzero_rem-left c = search (rules, bulk_some)
+nonzero_rem-left c = search (rules, bulk_two)
 
 pub loop-height-preserved : goal.loop-height-preserved
 loop-height-preserved c = search nears_down
