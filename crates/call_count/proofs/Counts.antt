@@ -48,9 +48,14 @@ module _ {X : Type 0} (plan : X → ℕ → List Change) (n : ℕ) where
   pub counting_start : Counting plan n 0 0
   counting_start = counting_none
 
+  -- where none is ahead, those counted are all, wherever that is
+  pub counting_past : (i count : ℕ) → ((x : X) → length (over (plan x) 0 n) ≡ count + length (over (plan x) i (n - i)))
+      → n ≤ i → (x : X) → count ≡ length (over (plan x) 0 n)
+  counting_past i count all l x = omega (arith, all x, ap length (over_none (plan x) i n l))
+
   module _ (i count : ℕ) (q : Counting plan n i count) where
     pub counting_end : n ≤ i → (x : X) → count ≡ length (over (plan x) 0 n)
-    counting_end l x = omega (arith, q.all x, ap length (over_none (plan x) i n l))
+    counting_end = counting_past i count q.all
 
     pub counting_most : count ≤ n
     counting_most = omega (arith, q.few, q.within)

@@ -20,7 +20,7 @@ use Rattle.meaning.specs.Calls.{Outcome, refused, refuse_if, after_check, slots_
 use Rattle.meaning.specs.declared.Reason.{Reason}
 use Rattle.laws.proofs.Inversions.{by_test, same_list_lem}
 use Rattle.laws.proofs.Every.{Every, every_right, range_every}
-use Rattle.laws_history.proofs.Local.{unlike, Same, other_flaw, other_why, Told, first_other, other_none, other_first, other_found, other_number, check_other}
+use Rattle.laws_history.proofs.Local.{unlike, Same, other_flaw, other_why, why_found, Told, first_other, other_none, other_first, other_found, other_number, check_other}
 use Rattle.laws.proofs.Walked.{slots_in_lem}
 use Rattle.laws_history.proofs.Started.{Sized, so_sized, other_sized}
 
@@ -69,6 +69,11 @@ pub record Stopped {A : Type 0} (e : Edition) (P P* R slots : List ℕ) (o : Out
   pub low : 4 ≤ number_of why
   pub high : number_of why ≤ 7
   pub answer : o ≡ refused (at why first.slot)
+
+-- so the reason is the one that other_why gives of that slot
+pub stopped_why : {A : Type 0} (e : Edition) (P P* R slots : List ℕ) (o : Outcome A) (q : Stopped e P P* R slots o)
+    → q.why ≡ other_why e P* R q.first.slot
+stopped_why e P P* R slots o q = why_found (other_flaw e P* R q.first.slot) q.why q.found
 
 -- a call on a blob, whose outcome is o, has outcome o* on the other pool
 pub record Exact {A : Type 0} (e : Edition) (P P* R : List ℕ) (b : Blob) (o o* : Outcome A) : Type 0 where

@@ -47,6 +47,11 @@ unfolding why_of
 some_why None n = absurd (n refl)
 some_why (Some why) n = refl
 
+-- a reason that is found is that one
+pub why_found : (f : Option Reason) (why : Reason) → Some why ≡ f → why ≡ why_of f
+unfolding why_of
+why_found f why q = ap why_of q
+
 -- and that of slot x
 abbrev pub other_why : Edition → (P* R : List ℕ) → ℕ → Reason
 other_why e P* R x = why_of (other_flaw e P* R x)
