@@ -3,9 +3,9 @@
 // stdout was written by the plain store of host/reference, which shares no code with this one.
 #![tactic(auto)]
 
-use vectors_play::player::{Plays, play};
+use vectors_play::player::{Plays, play_input};
 
 // The script is the input.
 fn main() {
-    play(Plays::All);
+    play_input(Plays::All);
 }

@@ -1,5 +1,8 @@
 // For the programs of test vectors: a script played over a store, command by command.
+use crate::kit::{large_buffer, read_full};
+use crate::text_player::play_text;
 use crate::{changes, reads};
+use std::io::{self, BufWriter, Write};
 use vectors_print::dump;
 use vectors_print::out::Out;
 use vectors_script::command::{Call, Changing, Command, Reading, Round};
@@ -30,14 +33,14 @@ impl<'s> Player<'s> {
     fn read(&mut self, store: &Store, call: Reading) {
         self.out.bytes(self.label);
         self.out.print(format_args!(": {call} ->"));
-        reads::call(&mut self.out, call, store);
+        reads::print_call(&mut self.out, call, store);
     }
 
     // A changing call's line.
     fn change(&mut self, store: &mut Store, call: Changing) {
         self.out.bytes(self.label);
         self.out.print(format_args!(": {call} ->"));
-        changes::call(&mut self.out, call, store);
+        changes::print_call(&mut self.out, call, store);
     }
 
     // Whether the program runs such a call over the store that was laid out.
@@ -56,7 +59,7 @@ impl<'s> Player<'s> {
         match call {
             Call::Read(reading) => self.read(store, reading),
             Call::Change(changing) => self.change(store, changing),
-            Call::Print(printing) => dump::call(&mut self.out, self.label, printing, store),
+            Call::Print(printing) => dump::print_call(&mut self.out, self.label, printing, store),
         }
     }
 
@@ -111,11 +114,20 @@ impl<'s> Player<'s> {
     }
 }
 
+// Plays the script that is the input, whole, to the runtime's output: text, with a line for each label and comment, and two spaces between commands. What
+// can't be read, held or printed is an error.
+pub fn play<R: Input + Print + AllocGlobal>(rt: &R) -> io::Result<()> {
+    let text = io::read_to_string(rt.alloc(), rt.reader())?;
+    let mut out = BufWriter::new(rt.alloc(), io::writer(rt))?;
+    play_text(text.as_str(), &mut out)?;
+    out.flush()
+}
+
 // Plays the script that is the input, or the first 65,536 bytes of it: what a program of test vectors does. Each call is one printed line. Before the
 // first label a line begins with the script's own first line.
-pub fn play(plays: Plays) {
-    let mut buffer = io::large_buffer();
-    let count = io::read_full(0, &mut buffer);
+pub fn play_input(plays: Plays) {
+    let mut buffer = large_buffer();
+    let count = read_full(0, &mut buffer);
     let script = &buffer[..count];
     let mut store = Store::new();
     let mut player = Player {

@@ -3,9 +3,9 @@
 // of heads: the plain store of host/reference wrote those, which shares no code with this one.
 #![tactic(auto)]
 
-use vectors_play::player::{Plays, play};
+use vectors_play::player::{Plays, play_input};
 
 // The script is the input.
 fn main() {
-    play(Plays::Reads);
+    play_input(Plays::Reads);
 }

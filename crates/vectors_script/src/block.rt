@@ -1,6 +1,5 @@
 // For the programs of test vectors: one block, record or byte laid out, as document 01 has it: nothing here uses the code that is
 // tried. What lies outside a slice is left out.
-use crate::store::SLOTS;
 
 // Bytes from a place on.
 fn put(bytes: &mut [u8], at: usize, values: &[u8]) {
@@ -11,9 +10,9 @@ fn put(bytes: &mut [u8], at: usize, values: &[u8]) {
     }
 }
 
-// Where a slot's bytes start, `width` of them a slot: no slot lies past the first that no store has.
+// Where a slot's bytes start, `width` of them a slot, or the last place that a number names.
 fn start(slot: u64, width: usize) -> usize {
-    width.wrapping_mul(slot.min(SLOTS) as usize)
+    width.saturating_mul(slot as usize)
 }
 
 // A number modulo 256.

@@ -230,6 +230,21 @@ impl Command {
         }
         Round::named(name, numbers).map(Command::Round)
     }
+
+    // A command by itself, in words between any spaces: its letter, and its numbers, 0 for those that are not there or not numbers. The programs read
+    // theirs by `text::next`.
+    pub fn parse(text: &str) -> Option<Command> {
+        let mut words = text.split_ascii_whitespace();
+        let name = words.next()?;
+        let mut numbers = [0u64; 5];
+        for (number, word) in numbers.iter_mut().zip(words) {
+            *number = word.parse().unwrap_or(0);
+        }
+        match name.as_bytes() {
+            [letter] => Command::named(*letter, numbers),
+            _ => None,
+        }
+    }
 }
 
 // The call and its numbers, as a line has them.

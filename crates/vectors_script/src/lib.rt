@@ -5,4 +5,6 @@ pub mod block;
 pub mod command;
 pub mod rounds;
 pub mod store;
+#[cfg(test)]
+mod tests;
 pub mod text;
