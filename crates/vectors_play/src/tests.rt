@@ -82,8 +82,9 @@ impl Print for Rig<'_> {
     }
 }
 
-// Labels, a comment, words that are no command, and calls that ask for more than is printed.
-const SCRIPT: &[u8] = b"# no command  L 0
+// A call before the first label, labels, a comment, words that are no command, every call and round, and calls that ask for more than is read or written.
+const SCRIPT: &[u8] = b"L 0
+# no command  L 0
 = first
 w  L 0  R 0 0 100  P 0 1 60 70 5
 A  XX  S 0 1  F 0 1
@@ -91,9 +92,14 @@ A  XX  S 0 1  F 0 1
 = second  L 1
 W 0 4 1 300  Z 0 100  D 0  T 1  G
 = last
-N  B 0  O";
+N  B 0  O
+= one slot
+n 64 12  O  X 0  N  Z 0 5  E 0  Y 0
+= long
+n 512 96  O  N  Z 0 300  W 0 4 1 300  R 0 258 4  C 0";
 
-const PLAYED: &[u8] = b"first: length 0 -> 0 - 53
+const PLAYED: &[u8] = b": length 0 -> 1 -
+first: length 0 -> 0 - 53
 first: read 0 0 100 -> 10 - [eeeeeeeeeeeeeeeeeeeeeeeeeeeeeeeeeeeeeeeeeeeeeeeeeeeeeeeeeeeeeeeeeeeeeeeeeeeeeeeeeeeeeeeeeeeeeeeeeeeeeeeeeeeeeeeeeeeeeeeeeeeeeeee]
 first: head 0 1 60 70 5 -> 0 - 53 1 [40] 52 [4142434445464748494a4b4c4d4e4f505152535455565758595a5b5c5d5e5f606162636465666768696a6b6c6d6e6f8081828384eeeeeeeeeeeeeeee] 0 [eeeeeeeeeeeeeeeeeeeeeeeeeeeeeeeeeeeeeeeeeeeeeeeeeeeeeeeeeeeeeeeeeeeeeeeeeeeeeeeeeeeeeeeeeeeeeeeeeeeeeeeeeeeeeeeeeeeeeeeeeeeeeeee] 0 [eeeeeeeeee]
 first: audit -> 0 - 3
@@ -109,6 +115,34 @@ last: read 0 18446744073709551615 2 -> 10 - [eeee]
 last: find 0 18446744073709551615 -> 10 -
 last: show 0 18446744073709551615 -> 10 - []
 last: wipe -> 0 -
+one slot: wipe -> 0 -
+one slot: create -> 0 - 0
+one slot: write 0 0 165 1 -> 10 -
+one slot: resize 0 100 -> 11 -
+one slot: delete 0 -> 0 -
+one slot: slot 0 [523100000100000000000000] [00000000000000000000000000000000000000000000000000000000000000000000000000000000000000000000000000000000000000000000000000000000]
+one slot: create -> 0 - 0
+one slot: resize 0 5 -> 0 -
+one slot: length 0 -> 0 - 5
+one slot: read 0 0 1 -> 0 - [00]
+one slot: find 0 0 -> 0 - 16 5
+one slot: show 0 0 -> 0 - [0000000000]
+one slot: head 0 1 0 0 0 -> 0 - 5 1 [00] 0 [] 0 [] 0 []
+one slot: audit -> 0 - 1
+one slot: write 0 0 165 1 -> 0 -
+one slot: resize 0 100 -> 11 -
+one slot: delete 0 -> 0 -
+one slot: slot 0 [523100000400000000000000] [00000000000000000000000000000000000000000000000000000000000000000000000000000000000000000000000000000000000000000000000000000000]
+long: wipe -> 0 -
+long: create -> 0 - 0
+long: resize 0 300 -> 0 -
+long: write 0 4 1 300 -> 0 -
+long: read 0 258 4 -> 0 - [ff000000]
+long: length 0 -> 0 - 300
+long: read 0 0 1 -> 0 - [00]
+long: find 0 0 -> 0 - 80 48
+long: show 0 0 -> 0 - [000000000102030405060708090a0b0c0d0e0f101112131415161718191a1b1c1d1e1f202122232425262728292a2b2c]
+long: head 0 1 0 0 0 -> 0 - 300 1 [00] 0 [] 0 [] 0 []
 ";
 
 // The pair, laid out: slot 0 is a root, slots 1 and 2 are its leaves, of 48 bytes and of 5.
@@ -134,7 +168,10 @@ fn a_script_is_played(rt: HostRuntime) -> Result<(), Fail> {
 #[test]
 fn what_cannot_be_printed_or_read_is_an_error(rt: HostRuntime) {
     for (script, wanted) in [
-        (SCRIPT, b"first: length 0 -> 0 - 5".as_slice()),
+        (
+            SCRIPT,
+            b": length 0 -> 1 -\nfirst: length 0 -> 0 - 5".as_slice(),
+        ),
         (b"\xff".as_slice(), PLAYED),
     ] {
         let rig = Rig {

@@ -69,14 +69,15 @@ impl Store {
         }
     }
 
-    // A leaf's block, and nothing of its record.
+    // A leaf's block, and nothing of its record. Here and below a slot past the room is the first past it, where nothing is laid: where a block lies then
+    // has a bound that the compiler knows.
     fn leaf(&mut self, place: u64, own: u64, count: u64, version: u64) {
-        block::leaf(&mut self.pool, place, own, count, version);
+        block::leaf(&mut self.pool, place.min(SLOTS), own, count, version);
     }
 
     // A record: state 0 free, 1 part, 2 root.
     fn record(&mut self, slot: u64, state: u64, version: u64) {
-        block::record(&mut self.records, slot, state, version);
+        block::record(&mut self.records, slot.min(SLOTS), state, version);
     }
 
     // Slot 0, version 7, is a root with the children 1 and 2; slot 1, version 3, is a leaf of 48 bytes; slot 2, version 5, a leaf of 5.
@@ -115,7 +116,16 @@ impl Store {
                 count,
                 version,
                 first,
-            } => { block::inner(&mut self.pool, slot, height, count, version, first) }
+            } => {
+                block::inner(
+                    &mut self.pool,
+                    slot.min(SLOTS),
+                    height,
+                    count,
+                    version,
+                    first,
+                )
+            }
             Layout::Leaves { first, end } => self.leaves(first, end),
             Layout::Record {
                 slot,
