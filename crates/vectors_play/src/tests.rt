@@ -1,4 +1,5 @@
 // Calls printed to a writer, and a script played from a runtime's input to its output.
+use crate::text_player::play_text;
 use crate::{changes, pieces, player, reads};
 use std::alloc::{Allocator, Global};
 use std::cell::Cell;
@@ -181,6 +182,15 @@ fn what_cannot_be_printed_or_read_is_an_error(rt: HostRuntime) {
             alloc: rt.alloc(),
         };
         assert!(rt; player::play(&rig).is_err());
+    }
+}
+
+#[test]
+fn no_call_of_a_round_fails_unseen(rt: HostRuntime) {
+    for round in ["w  B 0", "w  C 0", "w  E 0", "w  X 0", "w  Y 0"] {
+        let mut room = [0u8; 3];
+        let mut out = room.as_mut_slice();
+        assert!(rt; play_text(round, &mut out).is_err(), "at {round}");
     }
 }
 

@@ -64,10 +64,33 @@ fn a_store_has_its_lines(rt: HostRuntime) -> Result<(), Fail> {
 
 #[test]
 fn sums_tell_stores_apart(rt: HostRuntime) -> Result<(), Fail> {
-    let store = Store::new();
+    let mut store = Store::new();
     let mut out = Vec::new(rt.alloc());
     dump::call(&mut out, "", Printing::Sums, &store)?;
-    assert_eq!(rt; out.as_slice(), b": sums 1 1\n".as_slice());
+    store.lay(Layout::Wiped {
+        pool: 64,
+        records: 12,
+    });
+    dump::call(&mut out, "c", Printing::Sums, &store)?;
+    let wanted: &[u8] = b": sums 1 1\nc: sums 2666332217 1391948966\n";
+    assert_eq!(rt; out.as_slice(), wanted);
+    Ok(())
+}
+
+#[test]
+fn every_slot_has_a_line(rt: HostRuntime) -> Result<(), Fail> {
+    let mut store = Store::new();
+    store.lay(Layout::Wiped {
+        pool: 65600,
+        records: 12300,
+    });
+    let mut out = Vec::new(rt.alloc());
+    dump::call(&mut out, "d", Printing::Hex, &store)?;
+    let lines = out.as_slice().split(|byte| *byte == b'\n');
+    assert_eq!(rt;
+        lines.filter(|line| line.starts_with(b"d: slot ")).count(),
+        1025
+    );
     Ok(())
 }
 

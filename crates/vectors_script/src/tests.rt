@@ -49,7 +49,10 @@ fn other_words_are_no_command(rt: HostRuntime) {
 #[test]
 fn blocks_lie_at_their_slots(rt: HostRuntime) {
     let mut pool = [0u8; 70400];
-    block::leaf(&mut pool, 1028, 1028, 2, 5);
+    block::leaf(&mut pool, 1 << 58, 3, 2, 5);
+    block::inner(&mut pool, u64::MAX, 1, 2, 5, 1);
+    assert!(rt; pool.iter().all(|byte| *byte == 0));
+    block::leaf(&mut pool, 1028, 3, 2, 5);
     assert_eq!(rt; pool.iter().position(|byte| *byte != 0), Some(64 * 1028));
     block::inner(&mut pool, 1026, 1, 2, 5, 1);
     assert_eq!(rt; pool.iter().position(|byte| *byte != 0), Some(64 * 1026));
